@@ -1,0 +1,2 @@
+pub mod FaultWords
+pub mod Words

@@ -1,0 +1,9 @@
+pub mod CardBytes
+pub mod Faults
+pub mod Fields
+pub mod Kinds
+pub mod Layouts
+pub mod Recipes
+pub mod Shelves
+pub mod Slips
+pub mod Theorems

@@ -1,0 +1,38 @@
+// Cards: what a record carries. A slip is an order, a recipe is what to pour.
+mod card;
+mod card_bytes;
+mod fault;
+mod recipe;
+mod shelf;
+mod slip;
+mod theorems;
+
+pub use card::Card;
+pub use card_bytes::CardBytes;
+pub use card_bytes::MOST_BYTES;
+pub use fault::CardFault;
+pub use fault::CardFaultDebug;
+pub use fault::CardFaultPartialEq;
+pub use recipe::COLORANTS;
+pub use recipe::Recipe;
+pub use recipe::RecipeDebug;
+pub use recipe::kind::MOST_AMOUNT;
+pub use recipe::kind::RECIPE_BYTES;
+pub use recipe::kind::RecipeCard;
+pub use shelf::ShelfFault;
+pub use shelf::ShelfFaultDebug;
+pub use shelf::ShelfFaultFromCard;
+pub use shelf::ShelfFaultPartialEq;
+pub use shelf::blank_cards;
+pub use shelf::fill;
+pub use shelf::read;
+pub use slip::Slip;
+pub use slip::SlipDebug;
+pub use slip::SlipPartialEq;
+pub use slip::kind::MOST_CAN_TENTHS;
+pub use slip::kind::SLIP_BYTES;
+pub use slip::kind::SlipCard;
+pub use theorems::blank_cards_are_zero;
+pub use theorems::faults_lie_in_line;
+pub use theorems::fill_reads_back;
+pub use theorems::refused_fill_keeps_cards;

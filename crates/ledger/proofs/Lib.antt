@@ -1,0 +1,11 @@
+pub mod Words
+pub mod Limits
+pub mod Extend
+pub mod Runs
+pub mod Changes
+pub mod Order
+pub mod Since
+pub mod Judge
+pub mod Quiet
+pub mod Reused
+pub mod LedPast

@@ -1,0 +1,4 @@
+pub mod Shared
+pub mod Found
+pub mod Perform
+pub mod Standings

@@ -1,0 +1,10 @@
+pub mod Words
+pub mod State
+pub mod Setters
+pub mod Shape
+pub mod Clauses
+pub mod Invariant
+pub mod Effects
+pub mod Steps
+pub mod Own
+pub mod Theorems

@@ -1,0 +1,4 @@
+pub mod Bytes
+pub mod Choices
+pub mod Faults
+pub mod Limits

@@ -1,0 +1,3 @@
+pub mod FrameWords
+pub mod RefusalWords
+pub mod Totals
