@@ -1,215 +1,82 @@
--- A new table is sound, and every beginning that is not refused keeps it so.
-use Prim.Native.Nat.{ℕ, zero, suc, _+_, _*_, _-_, _/_, _%_, _<_, _≤_}
+-- Every beginning that is not refused keeps the table sound.
+use Prim.Native.Nat.{ℕ, _+_, _-_, _/_, _%_, _<_}
 use mathlib.Core.Path.{_≡_, refl, sym, ap, subst, _∙_}
-use mathlib.Core.Bool.{Bool, true, false, cond}
+use mathlib.Core.Bool.{true, false, cond, not}
 use mathlib.Core.Logic.{_⊎_, inl, inr}
 use mathlib.Core.List.{List, [], _∷_, _++_}
 use lib.ListN.{length}
 use native.Mathlib.Omega.{arith}
-use Rattle.std.proofs.shelf.Tests.{cases-eq, cases-lt, cases-bool, false≢true, cond-true, cond-false}
+use Rattle.std.proofs.shelf.Tests.{cases-eq, false≢true, ltb-true}
 use Rattle.std.specs.declared.option.Option.{Option}
 use Rattle.std.specs.declared.option.Option.the-variants.{Some, None}
 use Rattle.terms.specs.declared.Record.{Record}
-use Rattle.terms.specs.declared.Slot.{Slot}
 use Rattle.terms.specs.declared.Position.{Position}
 use Rattle.terms.specs.declared.Spot.{Spot}
 use Rattle.terms.specs.declared.Spot.the-variants as at
 use Rattle.terms.specs.declared.Outcome.{Outcome}
 use Rattle.terms.specs.declared.Standing.{Standing}
-use Rattle.terms.specs.declared.Standing.the-variants.{Pooled, Fresh}
+use Rattle.terms.specs.declared.Standing.the-variants.{Pooled, Fresh, Retired}
 use Rattle.terms.specs.Words.{is-none, lowest, same-name}
 use Rattle.memory.specs.declared.access.Write.{Write}
-use Rattle.memory.specs.Shared.{Shared, name-at, set-name, swapped, swap-answer}
+use Rattle.memory.specs.Shared.{Shared, lowest-naming, blank}
 use Rattle.memory.specs.Standings.{set-standing, named}
-use Rattle.work.specs.declared.work.Clean.{Clean}
-use Rattle.work.specs.declared.work.Round.{Round}
-use Rattle.work.specs.declared.work.Round.the-variants.{Own, All}
-use Rattle.work.specs.declared.work.AfterLook.{AfterLook}
 use Rattle.work.specs.declared.work.AfterLook.the-variants as look
 use Rattle.work.specs.declared.work.AfterSwap.the-variants as swap
-use Rattle.work.specs.declared.work.AfterStore.{AfterStore}
 use Rattle.work.specs.declared.work.AfterStore.the-variants as store
-use Rattle.work.specs.declared.work.Point.{Point}
-use Rattle.work.specs.declared.work.Point.the-variants.{End, Take, Look, LookAgain, Verify, Swap, Save, Overwrite, AskDeleted}
-use Rattle.work.specs.Plans.{Plan, plan, Notes, Sight, slot}
-use Rattle.work.specs.Steps.{quiet, taken-of, looked-of, swapped-of, stored-of, counts-of}
-use Rattle.machine.specs.Tables.{Sizes, sight-in}
+use Rattle.work.specs.declared.work.Point.the-variants.{End, Take, Look, Swap, Save}
+use Rattle.work.specs.Plans.{Plan, plan, Notes, slot, station, place, noted, pushed}
+use Rattle.work.specs.Steps.{quiet, begin-of}
+use Rattle.machine.specs.Tables.{Sizes, sight-in, Table}
 use Rattle.protocol.specs.Words.{upd}
-use Rattle.protocol.specs.State.{State, giving}
-use Rattle.protocol.specs.Shape.{Holds, Carries}
+use Rattle.protocol.specs.State.{State, resting, passed}
 use Rattle.protocol.specs.Invariant.{Inv}
-use Rattle.protocol.specs.Effects.{after-take, after-verify, after-write, after-save}
 use Rattle.protocol.specs.Steps as step
-use Rattle.protocol.specs.Steps.{Step, Moves, Reach}
-use Rattle.protocol.specs.Theorems.{MayTouch, as-held, as-listed, as-claimed}
-use Rattle.protocol.proofs.Words.{upd-other, none-some}
+use Rattle.protocol.proofs.Words.{upd-other, none-some, upd-same, some-same}
 use Rattle.protocol.proofs.Facts.{one-move}
-use Rattle.laws.specs.Numbers.{shape, slot-number, place-number, spot-number}
-use Rattle.laws.specs.Agree.{Agrees, num}
-use Rattle.laws.specs.Mine.{Mine, mine, row, Quiet, put-slot, put-held, put-hand, put-wiped, put-saved, put-known}
+use Rattle.laws.specs.Numbers.{shape, place-number, spot-number}
+use Rattle.laws.specs.Agree.{Agrees}
+use Rattle.laws.specs.Mine.{Mine, mine, put-slot, put-held, put-known, put-place, put-lists, put-storing}
 use Rattle.laws.specs.Owes as owes
-use Rattle.laws.specs.Owes.{Owes, new-held}
-use Rattle.laws.specs.Lists.{Settled, place-of, node-of}
-use Rattle.laws.specs.Points.{AtPoint, Firm, Opened, Empty, Naming, Room, TwoRooms, RoomBeside, HeldHere, Carried, Within, Steady, Cleanable, Cleaning, Before, During, clean-spot, next-spot}
-use Rattle.laws.specs.Fits.{Lawful}
-use Rattle.laws.proofs.Rows.{upd-here, row-at, row-upd}
+use Rattle.laws.specs.Owes.{Owes}
+use Rattle.laws.specs.Points.{AtPoint, TwoRooms, HeldHere, Carried, Within}
+use Rattle.laws.specs.Fits.{Lawful, Working, Sound, Follows}
+use Rattle.laws.proofs.Rows.{upd-here, row-at, column-upd}
 use Rattle.laws.proofs.Words.{one-word}
 use Rattle.laws.proofs.Names.{same-num}
-use Rattle.laws.proofs.Rooms.{lowest-empty, beside, beside-on, one-room, beside-room, not-empty, naming-on, empty-on, firm-on, opens, opened-on, closes-none, closes}
-use Rattle.laws.proofs.Owed.{Turned, own-slot, ready-of, within}
-use Rattle.laws.proofs.Spots.{Spotted, spotted-below, spot-names, root-owner, link-owner, write-agrees, wrote, write-mine, counts-ended}
-use Rattle.laws.proofs.Seats.{Decided}
-use lib.Dec.{eqb, ltb, leb}
-use Rattle.std.proofs.shelf.Tests.{cond-both, ltb-true, eqb-true, eqb-false, leb-true, eq-eqb}
-use mathlib.Core.Path.{fun-ext}
+use Rattle.laws.proofs.Rooms.{firm-on, two-rooms, room-on, is-none-num}
+use Rattle.laws.proofs.Owed.{ready-of}
+use Rattle.laws.proofs.Spots.{Spotted, spotted-below, link-owner}
+use lib.Dec.{ltb}
 use Rattle.terms.specs.declared.Station.{Station}
-use Rattle.terms.specs.declared.Place.{Place}
-use Rattle.work.specs.declared.work.Reached.{Reached}
-use Rattle.work.specs.declared.work.Point.the-variants.{AskPlace, AskDone, AskPlaceAgain, CountFirst}
-use Rattle.work.specs.Plans.{station, place, position, head-of, reached}
-use Rattle.work.specs.Steps.{release-of, round-at, round-of, next-place, own-next, record-clean, link-clean, clean-at, scan-start, first-pass, deleted-of, place-found, done-of, again-of}
-use Rattle.protocol.specs.State.{Phase, resting, passed}
-use Rattle.protocol.specs.Effects.{after-reset-scan, after-look-again}
-use Rattle.laws.specs.Mine.{column, put-phase, put-read, put-seen, put-claiming, put-valid}
-use Rattle.laws.specs.Owes.{emptied-slot}
-use Rattle.laws.specs.Lists.{entry-at, Unscanned, Stands, First}
-use Rattle.laws.specs.Points.{Rounding}
-use Rattle.laws.proofs.Rows.{row-tells}
-use Rattle.laws.proofs.Rooms.{two-rooms}
-use Rattle.laws.proofs.Walks.{Walk, over, at, walk}
-use Rattle.laws.proofs.Dereference.{clean-spotted, Found}
-use Rattle.protocol.proofs.Words.{upd-same, some-same}
+use Rattle.protocol.specs.Effects.{after-reset-scan, after-begin-store, after-retire}
+use Rattle.laws.proofs.Walks.{at}
 use Rattle.work.specs.declared.work.Entry.{Entry}
-use Rattle.work.specs.declared.work.Point.the-variants.{CountAgain, AskSlot, CountSecond, AskTrace, AskClaims, AskLink, Give}
-use Rattle.work.specs.Steps.{first-next, counted-first, counted-again}
-use Rattle.protocol.specs.State.{marking, gone, emptied}
-use Rattle.protocol.specs.Effects.{after-phase}
-use Rattle.laws.specs.Owes.{Lists}
 use Rattle.laws.specs.Lists.{Filed}
-use Rattle.laws.specs.Points.{Scanning}
-use Rattle.laws.proofs.Rows.{column-upd}
-use Rattle.laws.proofs.Owed.{own-place, listed-within}
-use mathlib.Core.Bool.{not, _&&_}
-use Rattle.std.proofs.shelf.Tests.{and-parts, not-true}
 use Rattle.laws.proofs.Dereference.{held-holds, held-within}
 use Rattle.work.specs.declared.notes.Note.{Note}
-use Rattle.work.specs.Plans.{noted, kept-too, pushed}
-use Rattle.work.specs.Steps.{Turn, turn, second-next, second-at, scan-end, count-kept, counted-second, traced-of, claims-of, emptied-of, cleared-of, lower}
-use Rattle.terms.specs.declared.Standing.the-variants.{Retired}
-use Rattle.protocol.specs.Clauses.{giving-back}
-use Rattle.protocol.specs.Effects.{after-empty-place, after-find-unclaimed, after-begin-store, after-clear-link, after-give}
-use Rattle.protocol.proofs.Words.{upd-tells}
-use Rattle.laws.proofs.Spots.{counts-owed}
-use Rattle.laws.specs.Mine.{put-place, put-low, put-lists, put-storing}
-use Rattle.laws.specs.Lists.{Second, Through}
-use Rattle.laws.specs.Points.{Storing, Into}
-use Rattle.laws.proofs.Filing.{snoc-length, pushed-snoc, keeps, gives, shuts}
-use Rattle.laws.proofs.Passing.{kept-filed, kept-length, second-point, at-place, some-station, entry-lists, before-apart, entry-spotted, entry-owner}
+use Rattle.laws.proofs.Filing.{pushed-snoc, keeps, adds}
 use Rattle.terms.specs.declared.Operation.{Operation}
 use Rattle.terms.specs.declared.Operation.the-variants as op
-use Rattle.terms.proofs.Lowest.{lowest-at, lowest-bound}
+use Rattle.terms.proofs.Lowest.{lowest-at}
 use Rattle.frames.specs.declared.refusal.Refusal.{Refusal}
-use Rattle.frames.specs.declared.refusal.Refused.{Refused}
-use Rattle.memory.specs.Shared.{lowest-naming, blank}
-use Rattle.work.specs.Plans.{no-notes}
-use Rattle.work.specs.Steps.{begin-of, free-place, delete-of}
-use Rattle.machine.specs.Tables.{Seat, Table, new-table}
 use Rattle.machine.specs.Steps.{seated}
 use Rattle.machine.specs.Begin as begin
-use Rattle.machine.specs.Begin.{Check, first-failing, begin-refusal, standing-begun, begun}
+use Rattle.machine.specs.Begin.{Check, first-failing, begin-refusal, begun}
 use Rattle.protocol.specs.Clauses.{making}
-use Rattle.protocol.specs.Effects.{after-retire}
-use Rattle.protocol.specs.Theorems.{start}
-use Rattle.protocol.proofs.All.{starts}
-use Rattle.laws.specs.Owes.{Lists}
-use Rattle.laws.specs.Fits.{Working, Seated, Fits, Sound}
-use Rattle.laws.proofs.Rooms.{room-on, is-none-num}
 use Rattle.terms.proofs.Puts.{put-tells}
-use Rattle.laws.proofs.Filing.{adds}
-use Rattle.laws.proofs.Rounds.{rested, reset-mine, Ready, round-point}
+use Rattle.laws.proofs.Rounds.{rested, reset-mine, round-point}
 use Rattle.laws.proofs.Cleaning.{taken-below}
-use Rattle.laws.proofs.Seats.{settles, sound-after}
-use Rattle.std.proofs.shelf.Tests.{false≢true}
-
--- A new table.
-none-row : (p i : ℕ) → row (λ _. None) p i ≡ None
-none-row p i = elim (row-tells (λ _. None) p i) [ inl (e, _) ↦ e | inr (e, _) ↦ e ]
-
-pub new-sound : (z : Sizes) → Lawful z → Sound (new-table z)
-new-sound z y = record {
-  lawful = y;
-  state = start;
-  inv = starts shape;
-  fits = record {
-    agrees = record { roots = λ _ _. refl; links = λ _ _ _. refl; counts = λ _. refl; traces = λ _. refl; deleteds = λ _. refl; standings = λ _. refl; slots = λ _ _ _. refl; places = λ _ _ _. refl; claims = λ _ _ _. refl; beyond = λ _ _. refl; blank = λ _ _ _ _. refl };
-    pooled = λ r e. (refl, ltb-true r (z .records) e);
-    seats = λ p l. (
-      record { ups = refl; clears = refl; downs = refl; stores = refl; hands = refl },
-      (λ i. refl),
-      record {
-        unscanned = record {
-          filed = record {
-            inside = omega arith;
-            room = omega arith;
-            front = λ k h. absurd (omega arith);
-            back = λ k h. absurd (omega arith);
-            front-low = λ k h. absurd (omega arith);
-            back-low = λ k h. absurd (omega arith);
-            front-apart = λ k i h. absurd (omega arith);
-            back-apart = λ k i h. absurd (omega arith);
-            apart = λ k i h. absurd (omega arith);
-            only = λ j r e. absurd (none-some e);
-          };
-          kept = refl;
-          unseen = λ r. refl;
-          named = λ j. refl;
-          settled = λ j. inl refl;
-        };
-        short = y .some-place;
-        claimless = refl;
-      },
-      (0, record { below = (let two = y .two-slots in omega arith); none = none-row p 0 }),
-    );
-  };
-}
-
--- Checks that all pass.
-pub pass : (c : Bool) (x : Option Refused) (r : Refused) → cond c x (Some r) ≡ None → (c ≡ true) × (x ≡ None)
-pass true x r e = (refl, e)
-pass false x r e = absurd (some-not e)
-  where
-    some-not : {r : Refused} → _≡_ {A = Option Refused} (Some r) None → ⊥
-    some-not e = grind arith
-
-pub passes : (xs ys : List Check) → first-failing (xs ++ ys) ≡ None → (first-failing xs ≡ None) × (first-failing ys ≡ None)
-passes [] ys e = (refl, e)
-passes (c ∷ xs) ys e =
-    let (t, h) = pass (c .passes) (first-failing (xs ++ ys)) (c .refusal) e in
-    let (u, v) = passes xs ys h in
-    (cond-true (c .passes) (first-failing xs) (Some (c .refusal)) t ∙ u, v)
-
--- Slots counted: with fewer names than slots one is empty, with fewer by two, two are.
-pub one-empty : (f : ℕ → Option Record) (n : ℕ) → begin.taken f n < n → (i : ℕ) × (i < n) × (is-none (f i) ≡ true)
-one-empty f zero l = absurd (omega arith)
-one-empty f (suc n) l = go (one-empty f n) (is-none (f n)) refl l
-  where
-    go : (begin.taken f n < n → (i : ℕ) × (i < n) × (is-none (f i) ≡ true)) → (t : Bool) → is-none (f n) ≡ t → cond t (begin.taken f n) (suc (begin.taken f n)) < suc n → (i : ℕ) × (i < suc n) × (is-none (f i) ≡ true)
-    go less true e h = (n, omega arith, e)
-    go less false e h = let (i, k, x) = less (omega arith) in (i, omega arith, x)
-
-pub two-empty : (f : ℕ → Option Record) (n : ℕ) → begin.taken f n + 1 < n → (i : ℕ) × (j : ℕ) × (i ≡ j → ⊥) × (i < n) × (j < n) × (is-none (f i) ≡ true) × (is-none (f j) ≡ true)
-two-empty f zero l = absurd (omega arith)
-two-empty f (suc n) l = go (two-empty f n) (is-none (f n)) refl l
-  where
-    go : (begin.taken f n + 1 < n → (i : ℕ) × (j : ℕ) × (i ≡ j → ⊥) × (i < n) × (j < n) × (is-none (f i) ≡ true) × (is-none (f j) ≡ true)) → (t : Bool) → is-none (f n) ≡ t → cond t (begin.taken f n) (suc (begin.taken f n)) + 1 < suc n → (i : ℕ) × (j : ℕ) × (i ≡ j → ⊥) × (i < suc n) × (j < suc n) × (is-none (f i) ≡ true) × (is-none (f j) ≡ true)
-    go less true e h = let (i, k, x) = one-empty f n (omega arith) in (i, n, (λ q. omega arith), omega arith, omega arith, x, e)
-    go less false e h = let (i, j, d, k, l, x, v) = less (omega arith) in (i, j, d, omega arith, omega arith, x, v)
+use Rattle.laws.proofs.Seats.{sound-after}
+use Rattle.laws.proofs.Checks.{pass, passes, two-empty}
 
 fresh-is : (x : Standing) → begin.is-fresh x ≡ true → x ≡ Fresh
 fresh-is x e = grind arith
 
 not-retired : (x : Standing) → not (begin.is-retired x) ≡ true → x ≡ Retired → ⊥
 not-retired x e h = grind arith
+
+retired-not : Retired ≡ Pooled → ⊥
+retired-not e = grind arith
 
 -- One station begins, at rest.
 module _ (t : Table) (ok : Sound t) (p : ℕ) (pS : p < t .sizes .stations) (idle : AtPoint (t .sizes) (t .seats p .notes) (End Outcome.Done) (mine (ok .state) p)) where
@@ -270,23 +137,23 @@ module _ (t : Table) (ok : Sound t) (p : ℕ) (pS : p < t .sizes .stations) (idl
       )
 
   -- Beginnings that change no word of the protocol.
-  plain : (w : Plan) → Owes (z .each) (AtPoint z n (w .point)) (mine a p) (w .owed) → Sound (record { sizes = z; shared = s; standing = f; seats = seated (t .seats) p (Some w) n; pool = t .pool })
-  plain w o = sound-after t ok p pS s f (Some w) n (t .pool) (record { to = a; moves = step.stay; agrees = g; after = o }) (ok .fits .pooled)
+  plain : (w : Plan) → Owes (z .each) (AtPoint z n (w .point)) (mine a p) (w .owed) → Follows t ok p (record { sizes = z; shared = s; standing = f; seats = seated (t .seats) p (Some w) n; pool = t .pool })
+  plain w o = sound-after t ok p pS s f (Some w) n (t .pool) (record { to = a; moves = step.stay; agrees = g; after = o }) (ok .fits .pooled) (ok .fits .complete)
 
-  begin-new : first-failing (begin.standings-fit t p op.New) ≡ None → Sound (begun t p op.New)
+  begin-new : first-failing (begin.standings-fit t p op.New) ≡ None → Follows t ok p (begun t p op.New)
   begin-new e = let (k, firm, st, room) = idle in plain (plan [] Take) (owes.paid (k, firm, st, rooms-here (pass _ _ _ e .0)))
 
-  begin-deref : (q : Spot) → first-failing (begin.ranges z (op.Deref q)) ≡ None → first-failing (begin.held t p (op.Deref q)) ≡ None → first-failing (begin.standings-fit t p (op.Deref q)) ≡ None → Sound (begun t p (op.Deref q))
+  begin-deref : (q : Spot) → first-failing (begin.ranges z (op.Deref q)) ≡ None → first-failing (begin.held t p (op.Deref q)) ≡ None → first-failing (begin.standings-fit t p (op.Deref q)) ≡ None → Follows t ok p (begun t p (op.Deref q))
   begin-deref q e h w = let (k, firm, st, room) = idle in plain (plan [] (Look q look.Answer)) (owes.paid (k, firm, (st, within-here q e h, rooms-here (pass _ _ _ w .0))))
 
-  begin-release : (r : Record) → first-failing (begin.held t p (op.Release r)) ≡ None → Sound (begun t p (op.Release r))
+  begin-release : (r : Record) → first-failing (begin.held t p (op.Release r)) ≡ None → Follows t ok p (begun t p (op.Release r))
   begin-release r e =
       let (k, firm, st, room) = idle in
       let (i, l, h) = named-here r (pass _ _ _ e .0) in
       plain (plan (Write.Release r ∷ []) (End Outcome.Done)) (owes.release r k i l h (λ j jK ej.
       owes.paid (record { ups = k .ups; clears = k .clears; downs = k .downs; stores = k .stores; hands = k .hands }, firm-on (mine a p .slot) (mine a p .held) j None firm, st, room-on j room)))
 
-  begin-cas : (q : Spot) (o v : Option Record) → first-failing (begin.ranges z (op.Cas q o v)) ≡ None → first-failing (begin.held t p (op.Cas q o v)) ≡ None → Sound (begun t p (op.Cas q o v))
+  begin-cas : (q : Spot) (o v : Option Record) → first-failing (begin.ranges z (op.Cas q o v)) ≡ None → first-failing (begin.held t p (op.Cas q o v)) ≡ None → Follows t ok p (begun t p (op.Cas q o v))
   begin-cas q o v e h =
       let (k, firm, st, room) = idle in
       let (e1, _) = passes (begin.spot-ranges z q ++ begin.name-ranges z o 4) (begin.name-ranges z v 5) e in
@@ -295,7 +162,7 @@ module _ (t : Table) (ok : Sound t) (p : ℕ) (pS : p < t .sizes .stations) (idl
       plain (plan [] (Swap q o v swap.Answer)) (owes.paid (k, firm, (st, within-here q e2 h1, carried-here v 5 h2, room)))
 
   begin-store : (c : Record) (x : Position) (v : Option Record) → first-failing (begin.ranges z (op.Store c x v)) ≡ None → first-failing (begin.held t p (op.Store c x v)) ≡ None →
-      first-failing (begin.standings-fit t p (op.Store c x v)) ≡ None → Sound (begun t p (op.Store c x v))
+      first-failing (begin.standings-fit t p (op.Store c x v)) ≡ None → Follows t ok p (begun t p (op.Store c x v))
   begin-store c x v e h w =
       let (k, firm, st, room) = idle in
       let q : Spot = Spot.Link c x in
@@ -315,14 +182,14 @@ module _ (t : Table) (ok : Sound t) (p : ℕ) (pS : p < t .sizes .stations) (idl
         after = subst (λ (m : Mine). Owes (z .each) (AtPoint z n (Save q v store.Answer)) m []) (sym me)
             (owes.paid (record { ups = k .ups; clears = k .clears; downs = k .downs; hands = k .hands; spot = refl }, firm, (st, (c, x, refl, inside, held), carried-here v 4 h2, room)));
       })
-      (ok .fits .pooled)
+      (ok .fits .pooled) (ok .fits .complete)
 
-  begin-delete : (r : Record) → first-failing (begin.held t p (op.Delete r)) ≡ None → first-failing (begin.standings-fit t p (op.Delete r)) ≡ None → Sound (begun t p (op.Delete r))
+  begin-delete : (r : Record) → first-failing (begin.held t p (op.Delete r)) ≡ None → first-failing (begin.standings-fit t p (op.Delete r)) ≡ None → Follows t ok p (begun t p (op.Delete r))
   begin-delete r h w =
       let (k, firm, st, (e0, empty)) = idle in
-      let (retired, w2) = pass _ _ _ w in
+      let (retired, w2) = pass (not (begin.is-retired (f (r .number)))) (cond (begin.place-free t p) None (Some (record { why = Refusal.List; place = 1 }))) (record { why = Refusal.Retired; place = 2 }) w in
       let j : ℕ = lowest (λ i. is-none (s .places p i)) (z .t1) in
-      let low : j < z .t1 = ltb-true j (z .t1) (pass _ _ _ w2 .0) in
+      let low : j < z .t1 = ltb-true j (z .t1) (pass (begin.place-free t p) None (record { why = Refusal.List; place = 1 }) w2 .0) in
       let (i, iK, names) = named-here r (pass _ _ _ h .0) in
       let held = held-here r (pass _ _ _ h .0) in
       let holds = held-holds z y p pS pN s f a b g n (r .number) held in
@@ -377,8 +244,9 @@ module _ (t : Table) (ok : Sound t) (p : ℕ) (pS : p < t .sizes .stations) (idl
         | inl (_, same, _) ↦ absurd (b .held .live (holds .0) (r .number) (holds .1) (holds .3) (g .standings (r .number) ∙ ap f same ∙ u))
         | inr (o, _) ↦ (o ∙ u, l)
       ])
+      (λ x l q. elim (put-tells 128 f (r .number) Retired x) [ inl (o, _, _) ↦ absurd (retired-not (sym o ∙ q)) | inr (o, _) ↦ ok .fits .complete x l (sym o ∙ q) ])
 
-  begins : (o : Operation) → first-failing (begin.ranges z o) ≡ None → first-failing (begin.held t p o) ≡ None → first-failing (begin.standings-fit t p o) ≡ None → Sound (begun t p o)
+  begins : (o : Operation) → first-failing (begin.ranges z o) ≡ None → first-failing (begin.held t p o) ≡ None → first-failing (begin.standings-fit t p o) ≡ None → Follows t ok p (begun t p o)
   begins op.New e h w = begin-new w
   begins (op.Deref q) e h w = begin-deref q e h w
   begins (op.Release r) e h w = begin-release r h
@@ -390,7 +258,7 @@ idle-none : (x : Option Plan) → begin.is-idle x ≡ true → x ≡ None
 idle-none None e = refl
 idle-none (Some w) e = absurd (false≢true e)
 
-pub begin-sound : (t : Table) → Sound t → (p : ℕ) (o : Operation) → begin-refusal t p o ≡ None → Sound (begun t p o)
+pub begin-sound : (t : Table) (ok : Sound t) → (p : ℕ) (o : Operation) → begin-refusal t p o ≡ None → Follows t ok p (begun t p o)
 begin-sound t ok p o e =
     let c0 : Check = begin.check (ltb p (t .sizes .stations)) Refusal.Station 1 in
     let c1 : Check = begin.check (begin.is-idle (t .seats p .work)) Refusal.Busy 1 in

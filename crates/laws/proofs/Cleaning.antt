@@ -1,89 +1,60 @@
 -- CLEAN of a record, and CLEAN ALL: every decision.
-use Prim.Native.Nat.{ℕ, _+_, _*_, _/_, _<_, _≤_}
+use Prim.Native.Nat.{ℕ, _+_, _/_, _<_}
 use mathlib.Core.Path.{_≡_, refl, sym, ap, subst, _∙_}
-use mathlib.Core.Bool.{Bool, true, false, cond}
+use mathlib.Core.Bool.{Bool, true, false}
 use mathlib.Core.Logic.{_⊎_, inl, inr}
 use mathlib.Core.List.{List, [], _∷_, _++_}
 use lib.ListN.{length}
 use native.Mathlib.Omega.{arith}
-use Rattle.std.proofs.shelf.Tests.{cases-eq, cases-lt, cases-bool, cond-true, cond-false}
+use Rattle.std.proofs.shelf.Tests.{cases-lt, cond-both, ltb-true}
 use Rattle.std.specs.declared.option.Option.{Option}
 use Rattle.std.specs.declared.option.Option.the-variants.{Some, None}
 use Rattle.terms.specs.declared.Record.{Record}
 use Rattle.terms.specs.declared.Slot.{Slot}
-use Rattle.terms.specs.declared.Position.{Position}
 use Rattle.terms.specs.declared.Spot.{Spot}
-use Rattle.terms.specs.declared.Spot.the-variants as at
-use Rattle.terms.specs.declared.Outcome.{Outcome}
 use Rattle.terms.specs.declared.Standing.{Standing}
-use Rattle.terms.specs.declared.Standing.the-variants.{Pooled, Fresh}
-use Rattle.terms.specs.Words.{is-none, lowest, same-name}
+use Rattle.terms.specs.Words.{same-name}
 use Rattle.memory.specs.declared.access.Write.{Write}
-use Rattle.memory.specs.Shared.{Shared, name-at, set-name, swapped, swap-answer}
-use Rattle.memory.specs.Standings.{set-standing, named}
+use Rattle.memory.specs.Shared.{Shared, name-at, set-name}
+use Rattle.memory.specs.Standings.{named}
 use Rattle.work.specs.declared.work.Clean.{Clean}
 use Rattle.work.specs.declared.work.Round.{Round}
 use Rattle.work.specs.declared.work.Round.the-variants.{Own, All}
 use Rattle.work.specs.declared.work.AfterLook.{AfterLook}
 use Rattle.work.specs.declared.work.AfterLook.the-variants as look
 use Rattle.work.specs.declared.work.AfterSwap.the-variants as swap
-use Rattle.work.specs.declared.work.AfterStore.{AfterStore}
-use Rattle.work.specs.declared.work.AfterStore.the-variants as store
-use Rattle.work.specs.declared.work.Point.{Point}
-use Rattle.work.specs.declared.work.Point.the-variants.{End, Take, Look, LookAgain, Verify, Swap, Save, Overwrite, AskDeleted}
-use Rattle.work.specs.Plans.{Plan, plan, Notes, Sight, slot}
-use Rattle.work.specs.Steps.{quiet, taken-of, looked-of, swapped-of, stored-of, counts-of}
+use Rattle.work.specs.declared.work.Point.the-variants.{Verify, Swap, AskDeleted, AskPlace, AskDone, AskPlaceAgain}
+use Rattle.work.specs.Plans.{Plan, plan, Notes, Sight, slot, place, position, reached}
+use Rattle.work.specs.Steps.{quiet, swapped-of, counts-of, release-of, next-place, own-next, record-clean, link-clean, clean-at, scan-start, deleted-of, place-found, done-of, again-of, verified-of, derefed-of}
 use Rattle.machine.specs.Tables.{Sizes, sight-in}
-use Rattle.protocol.specs.Words.{upd}
-use Rattle.protocol.specs.State.{State, giving}
-use Rattle.protocol.specs.Shape.{Holds, Carries}
+use Rattle.protocol.specs.State.{State, giving, Phase, resting, passed}
 use Rattle.protocol.specs.Invariant.{Inv}
-use Rattle.protocol.specs.Effects.{after-take, after-verify, after-write, after-save}
+use Rattle.protocol.specs.Effects.{after-write, after-reset-scan, after-look-again}
 use Rattle.protocol.specs.Steps as step
-use Rattle.protocol.specs.Steps.{Step, Moves, Reach}
-use Rattle.protocol.specs.Theorems.{MayTouch, as-held, as-listed, as-claimed}
-use Rattle.protocol.proofs.Words.{upd-other, none-some}
+use Rattle.protocol.specs.Steps.{Reach}
+use Rattle.protocol.proofs.Words.{none-some}
 use Rattle.protocol.proofs.Facts.{one-move}
-use Rattle.laws.specs.Numbers.{shape, slot-number, place-number, spot-number}
+use Rattle.laws.specs.Numbers.{shape, place-number, spot-number}
 use Rattle.laws.specs.Agree.{Agrees, num}
-use Rattle.laws.specs.Mine.{Mine, mine, row, Quiet, put-slot, put-held, put-hand, put-wiped, put-saved, put-known}
+use Rattle.laws.specs.Mine.{Mine, mine, Quiet, put-slot, put-held, put-claiming, put-valid}
 use Rattle.laws.specs.Owes as owes
-use Rattle.laws.specs.Owes.{Owes, new-held}
-use Rattle.laws.specs.Lists.{Settled, place-of, node-of}
-use Rattle.laws.specs.Points.{AtPoint, Firm, Opened, Empty, Naming, Room, TwoRooms, RoomBeside, HeldHere, Carried, Within, Steady, Cleanable, Cleaning, Before, During, clean-spot, next-spot}
+use Rattle.laws.specs.Owes.{Owes}
+use Rattle.laws.specs.Lists.{Settled, place-of, Unscanned}
+use Rattle.laws.specs.Points.{AtPoint, Firm, Naming, TwoRooms, RoomBeside, Carried, Cleanable, Cleaning, clean-spot, Rounding}
 use Rattle.laws.specs.Fits.{Lawful}
-use Rattle.laws.proofs.Rows.{upd-here, row-at, row-upd}
-use Rattle.laws.proofs.Words.{one-word}
+use Rattle.laws.proofs.Rows.{upd-here, row-tells}
 use Rattle.laws.proofs.Names.{same-num}
-use Rattle.laws.proofs.Rooms.{lowest-empty, beside, beside-on, one-room, beside-room, not-empty, naming-on, empty-on, firm-on, opens, opened-on, closes-none, closes}
-use Rattle.laws.proofs.Owed.{Turned, own-slot, ready-of, within}
-use Rattle.laws.proofs.Spots.{Spotted, spotted-below, spot-names, root-owner, link-owner, write-agrees, wrote, write-mine, counts-ended}
+use Rattle.laws.proofs.Rooms.{beside-room, not-empty, closes-none}
+use Rattle.laws.proofs.Owed.{Turned, ready-of}
+use Rattle.laws.proofs.Spots.{spotted-below, spot-names, link-owner, write-agrees, wrote, write-mine, counts-owed}
 use Rattle.laws.proofs.Seats.{Decided}
-use lib.Dec.{eqb, ltb, leb}
-use Rattle.std.proofs.shelf.Tests.{cond-both, ltb-true, eqb-true, eqb-false, leb-true, eq-eqb}
-use mathlib.Core.Path.{fun-ext}
+use lib.Dec.{ltb}
 use Rattle.terms.specs.declared.Station.{Station}
 use Rattle.terms.specs.declared.Place.{Place}
 use Rattle.work.specs.declared.work.Reached.{Reached}
-use Rattle.work.specs.declared.work.Point.the-variants.{AskPlace, AskDone, AskPlaceAgain, CountFirst}
-use Rattle.work.specs.Plans.{station, place, position, head-of, reached}
-use Rattle.work.specs.Steps.{release-of, round-at, round-of, next-place, own-next, record-clean, link-clean, clean-at, scan-start, first-pass, deleted-of, place-found, done-of, again-of}
-use Rattle.protocol.specs.State.{Phase, resting, passed}
-use Rattle.protocol.specs.Effects.{after-reset-scan, after-look-again}
-use Rattle.laws.specs.Mine.{column, put-phase, put-read, put-seen, put-claiming, put-valid}
-use Rattle.laws.specs.Owes.{emptied-slot}
-use Rattle.laws.specs.Lists.{entry-at, Unscanned, Stands, First}
-use Rattle.laws.specs.Points.{Rounding}
-use Rattle.laws.proofs.Rows.{row-tells}
-use Rattle.laws.proofs.Rooms.{two-rooms}
 use Rattle.laws.proofs.Walks.{Walk, over, at, walk}
-use Rattle.laws.proofs.Dereference.{clean-spotted, Found}
-use Rattle.protocol.proofs.Words.{upd-same, some-same}
-use Rattle.work.specs.Steps.{verified-of, derefed-of, lower}
-use Rattle.laws.proofs.Rounds.{rested, reset-mine, releases, release-end, both-releases, Ready, scan-point, round-point, next-point}
-use Rattle.laws.proofs.Dereference.{verify-turn, verify-again, clean-may, held-holds, held-within}
-use Rattle.laws.proofs.Owed.{own-place}
-use Rattle.laws.proofs.Spots.{counts-owed}
+use Rattle.laws.proofs.Dereference.{clean-spotted, Found, verify-turn, verify-again, held-holds, held-within}
+use Rattle.laws.proofs.Rounds.{rested, reset-mine, releases, release-end, both-releases, RoundReady, scan-point, next-point}
 
 module _ (z : Sizes) (y : Lawful z) (p : ℕ) (pS : p < z .stations) (pN : p < 8) (s : Shared) (f : ℕ → Standing) (a : State) (b : Inv shape a) (g : Agrees z s f a) (n : Notes) where
   -- A slot that names something is one of the table's.
@@ -122,7 +93,7 @@ module _ (z : Sizes) (y : Lawful z) (p : ℕ) (pS : p < z .stations) (pN : p < 8
       owes.paid (record { ups = k .ups; clears = k .clears; downs = k .downs; stores = k .stores; hands = k .hands }, fi, (record { unscanned = w .unscanned; below = low; cleanable = w .cleanable }, refl, ro))))))
       (λ _. by-round (c .round) (w .cleanable))
     where
-      ready : (σ η : ℕ → Option ℕ) → Firm σ η → TwoRooms (z .each) σ → a .claiming p ≡ None → Ready z n (put-slot σ (put-held η (rested (mine a p))))
+      ready : (σ η : ℕ → Option ℕ) → Firm σ η → TwoRooms (z .each) σ → a .claiming p ≡ None → RoundReady z n (put-slot σ (put-held η (rested (mine a p))))
       ready σ η fi ro e = record { quiet = record { ups = k .ups; clears = k .clears; downs = k .downs; stores = k .stores; hands = k .hands }; firm = fi; unscanned = rested-list (w .unscanned); rests = λ j. refl; unread = refl; unseen = λ r. refl; claimless = e; rooms = ro }
 
       own : (left : ℕ) → left < length (n .list) → a .claiming p ≡ None → (x : Option Reached) → Walk (n .list) left x → Decided z p s f a n (quiet (own-next (release-of v) n x))

@@ -1,67 +1,52 @@
 -- Dereferences: D3, D4 and D5, whatever they go on with.
-use Prim.Native.Nat.{ℕ, _+_, _*_, _<_, _≤_}
-use mathlib.Core.Path.{_≡_, refl, sym, ap, subst, _∙_}
-use mathlib.Core.Bool.{Bool, true, false, cond}
-use mathlib.Core.Logic.{_⊎_, inl, inr}
-use mathlib.Core.List.{List, [], _∷_, _++_}
-use lib.ListN.{length}
+use Prim.Native.Nat.{ℕ, _<_}
+use mathlib.Core.Path.{_≡_, sym, ap, subst, _∙_}
+use mathlib.Core.Bool.{true}
+use mathlib.Core.List.{[]}
 use native.Mathlib.Omega.{arith}
-use Rattle.std.proofs.shelf.Tests.{cases-eq, cases-lt, cases-bool, cond-true, cond-false}
 use Rattle.std.specs.declared.option.Option.{Option}
 use Rattle.std.specs.declared.option.Option.the-variants.{Some, None}
 use Rattle.terms.specs.declared.Record.{Record}
 use Rattle.terms.specs.declared.Slot.{Slot}
-use Rattle.terms.specs.declared.Position.{Position}
 use Rattle.terms.specs.declared.Spot.{Spot}
 use Rattle.terms.specs.declared.Spot.the-variants as at
-use Rattle.terms.specs.declared.Outcome.{Outcome}
 use Rattle.terms.specs.declared.Standing.{Standing}
-use Rattle.terms.specs.declared.Standing.the-variants.{Pooled, Fresh}
 use Rattle.terms.specs.Words.{is-none, lowest, same-name}
-use Rattle.memory.specs.declared.access.Write.{Write}
-use Rattle.memory.specs.Shared.{Shared, name-at, set-name, swapped, swap-answer}
-use Rattle.memory.specs.Standings.{set-standing, named}
+use Rattle.memory.specs.Shared.{Shared, name-at}
 use Rattle.work.specs.declared.work.Clean.{Clean}
 use Rattle.work.specs.declared.work.Round.{Round}
 use Rattle.work.specs.declared.work.Round.the-variants.{Own, All}
 use Rattle.work.specs.declared.work.AfterLook.{AfterLook}
 use Rattle.work.specs.declared.work.AfterLook.the-variants as look
-use Rattle.work.specs.declared.work.AfterSwap.the-variants as swap
-use Rattle.work.specs.declared.work.AfterStore.the-variants as store
-use Rattle.work.specs.declared.work.Point.{Point}
-use Rattle.work.specs.declared.work.Point.the-variants.{End, Take, Look, LookAgain, Verify, Swap, Save, Overwrite, AskDeleted}
-use Rattle.work.specs.Plans.{Plan, plan, Notes, Sight, slot}
-use Rattle.work.specs.Steps.{quiet, taken-of, looked-of, swapped-of, stored-of, counts-of}
-use Rattle.machine.specs.Tables.{Sizes, sight-in}
+use Rattle.work.specs.declared.work.Point.the-variants.{Look, LookAgain, Verify}
+use Rattle.work.specs.Plans.{plan, Notes, slot}
+use Rattle.work.specs.Steps.{quiet, looked-of}
+use Rattle.machine.specs.Tables.{Sizes}
 use Rattle.protocol.specs.Words.{upd}
-use Rattle.protocol.specs.State.{State, giving}
-use Rattle.protocol.specs.Shape.{Holds, Carries}
+use Rattle.protocol.specs.State.{State}
+use Rattle.protocol.specs.Shape.{Holds}
 use Rattle.protocol.specs.Invariant.{Inv}
-use Rattle.protocol.specs.Effects.{after-take, after-verify, after-write, after-save}
+use Rattle.protocol.specs.Effects.{after-verify}
 use Rattle.protocol.specs.Steps as step
-use Rattle.protocol.specs.Steps.{Step, Moves, Reach}
 use Rattle.protocol.specs.Theorems.{MayTouch, as-held, as-listed, as-claimed}
-use Rattle.protocol.proofs.Words.{upd-other, none-some}
 use Rattle.protocol.proofs.Facts.{one-move}
 use Rattle.laws.specs.Numbers.{shape, slot-number, place-number, spot-number}
 use Rattle.laws.specs.Agree.{Agrees, num}
-use Rattle.laws.specs.Mine.{Mine, mine, row, Quiet, put-slot, put-held, put-hand, put-wiped, put-saved, put-known}
+use Rattle.laws.specs.Mine.{Mine, mine, Quiet, put-slot, put-held}
 use Rattle.laws.specs.Owes as owes
-use Rattle.laws.specs.Owes.{Owes, new-held}
-use Rattle.laws.specs.Lists.{Settled, place-of, node-of}
-use Rattle.laws.specs.Points.{AtPoint, Firm, Opened, Empty, Naming, Room, TwoRooms, RoomBeside, HeldHere, Carried, Within, Steady, Cleanable, Cleaning, Before, During, clean-spot, next-spot}
+use Rattle.laws.specs.Lists.{place-of}
+use Rattle.laws.specs.Points.{AtPoint, Firm, Opened, Empty, Naming, Room, RoomBeside, HeldHere, Within, Steady, Cleanable, Cleaning, Before, During, clean-spot, next-spot}
 use Rattle.laws.specs.Fits.{Lawful}
 use Rattle.laws.proofs.Rows.{upd-here, row-at, row-upd}
-use Rattle.laws.proofs.Words.{one-word}
 use Rattle.laws.proofs.Names.{same-num}
-use Rattle.laws.proofs.Rooms.{lowest-empty, beside, beside-on, one-room, beside-room, not-empty, naming-on, empty-on, firm-on, opens, opened-on, closes-none, closes}
-use Rattle.laws.proofs.Owed.{Turned, own-slot, ready-of, within}
-use Rattle.laws.proofs.Spots.{Spotted, spotted-below, spot-names, root-owner, link-owner, write-agrees, wrote, write-mine, counts-owed}
+use Rattle.laws.proofs.Rooms.{beside, beside-on, one-room, beside-room, not-empty, naming-on, opens, opened-on, closes-none, closes}
+use Rattle.laws.proofs.Owed.{Turned, own-slot, within}
+use Rattle.laws.proofs.Spots.{Spotted, spotted-below, spot-names}
 use Rattle.laws.proofs.Seats.{Decided}
 use Rattle.laws.proofs.Taking.{free-empty}
 
 module _ (z : Sizes) (y : Lawful z) (p : ℕ) (pS : p < z .stations) (pN : p < 8) (s : Shared) (f : ℕ → Standing) (a : State) (b : Inv shape a) (g : Agrees z s f a) (n : Notes) where
-  held-may : (r : ℕ) → HeldHere (mine a p .held) r → MayTouch shape a p r
+  pub held-may : (r : ℕ) → HeldHere (mine a p .held) r → MayTouch shape a p r
   held-may r (k, l, e) = let o = own-slot p k pN l in as-held (slot-number p k, o .below, o .mine, sym (row-at (a .held) p k l) ∙ e)
 
   pub held-holds : (r : ℕ) → HeldHere (mine a p .held) r → Holds shape (a .held) p r

@@ -1,20 +1,18 @@
 -- What is filed as an entry is kept, given back or added, and as a scan closes.
-use Prim.Native.Nat.{ℕ, zero, suc, _+_, _-_, _<_, _≤_}
+use Prim.Native.Nat.{ℕ, zero, suc, _+_, _-_, _<_}
 use mathlib.Core.Path.{_≡_, refl, sym, ap, subst, _∙_}
-use mathlib.Core.Bool.{Bool, true, false, cond}
-use mathlib.Core.Logic.{_⊎_, inl, inr}
+use mathlib.Core.Logic.{inl, inr}
 use mathlib.Core.List.{List, [], _∷_, _++_}
-use lib.ListN.{length, getD}
+use lib.ListN.{length}
 use lib.Dec.{ltb}
 use native.Mathlib.Omega.{arith}
 use Rattle.std.proofs.shelf.Tests.{cases-eq, cases-lt, cond-true, lt-ltb}
-use Rattle.std.specs.declared.option.Option.{Option}
 use Rattle.std.specs.declared.option.Option.the-variants.{Some, None}
 use Rattle.work.specs.declared.work.Entry.{Entry}
 use Rattle.work.specs.Plans.{pushed}
 use Rattle.protocol.specs.Words.{Names, upd}
 use Rattle.protocol.proofs.Words.{upd-same, upd-other, none-some}
-use Rattle.laws.specs.Lists.{entry-at, place-of, node-of, Filed}
+use Rattle.laws.specs.Lists.{entry-at, place-of, Filed}
 
 -- A list with one entry more: its length, the entries before, and the new one.
 pub snoc-length : (es : List Entry) (e : Entry) → length (es ++ e ∷ []) ≡ length es + 1

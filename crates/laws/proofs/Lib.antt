@@ -17,5 +17,8 @@ pub mod Reading
 pub mod Passing
 pub mod Giving
 pub mod Turning
+pub mod Checks
 pub mod Beginning
 pub mod Promises
+pub mod Touching
+pub mod Places

@@ -1,94 +1,43 @@
 -- SCAN, first pass: SC4, SC5 and SC6.
-use Prim.Native.Nat.{ℕ, zero, suc, _+_, _*_, _-_, _/_, _%_, _<_, _≤_}
+use Prim.Native.Nat.{ℕ, _+_, _-_, _<_, _≤_}
 use mathlib.Core.Path.{_≡_, refl, sym, ap, subst, _∙_}
-use mathlib.Core.Bool.{Bool, true, false, cond}
-use mathlib.Core.Logic.{_⊎_, inl, inr}
-use mathlib.Core.List.{List, [], _∷_, _++_}
+use mathlib.Core.Bool.{Bool, true, false}
+use mathlib.Core.Logic.{inl, inr}
+use mathlib.Core.List.{List, [], _∷_}
 use lib.ListN.{length}
 use native.Mathlib.Omega.{arith}
-use Rattle.std.proofs.shelf.Tests.{cases-eq, cases-lt, cases-bool, false≢true, cond-true, cond-false}
+use Rattle.std.proofs.shelf.Tests.{cases-eq, false≢true, eqb-true}
 use Rattle.std.specs.declared.option.Option.{Option}
 use Rattle.std.specs.declared.option.Option.the-variants.{Some, None}
-use Rattle.terms.specs.declared.Record.{Record}
-use Rattle.terms.specs.declared.Slot.{Slot}
-use Rattle.terms.specs.declared.Position.{Position}
-use Rattle.terms.specs.declared.Spot.{Spot}
-use Rattle.terms.specs.declared.Spot.the-variants as at
-use Rattle.terms.specs.declared.Outcome.{Outcome}
 use Rattle.terms.specs.declared.Standing.{Standing}
-use Rattle.terms.specs.declared.Standing.the-variants.{Pooled, Fresh}
-use Rattle.terms.specs.Words.{is-none, lowest, same-name}
 use Rattle.memory.specs.declared.access.Write.{Write}
-use Rattle.memory.specs.Shared.{Shared, name-at, set-name, swapped, swap-answer}
-use Rattle.memory.specs.Standings.{set-standing, named}
-use Rattle.work.specs.declared.work.Clean.{Clean}
-use Rattle.work.specs.declared.work.Round.{Round}
-use Rattle.work.specs.declared.work.Round.the-variants.{Own, All}
-use Rattle.work.specs.declared.work.AfterLook.{AfterLook}
-use Rattle.work.specs.declared.work.AfterLook.the-variants as look
-use Rattle.work.specs.declared.work.AfterSwap.the-variants as swap
-use Rattle.work.specs.declared.work.AfterStore.{AfterStore}
-use Rattle.work.specs.declared.work.AfterStore.the-variants as store
-use Rattle.work.specs.declared.work.Point.{Point}
-use Rattle.work.specs.declared.work.Point.the-variants.{End, Take, Look, LookAgain, Verify, Swap, Save, Overwrite, AskDeleted}
-use Rattle.work.specs.Plans.{Plan, plan, Notes, Sight, slot}
-use Rattle.work.specs.Steps.{quiet, taken-of, looked-of, swapped-of, stored-of, counts-of}
-use Rattle.machine.specs.Tables.{Sizes, sight-in}
+use Rattle.memory.specs.Shared.{Shared}
+use Rattle.memory.specs.Standings.{named}
+use Rattle.work.specs.Plans.{Notes, slot, place, reached}
+use Rattle.work.specs.Steps.{quiet, first-pass, counted-first, counted-again}
+use Rattle.machine.specs.Tables.{Sizes}
 use Rattle.protocol.specs.Words.{upd}
-use Rattle.protocol.specs.State.{State, giving}
-use Rattle.protocol.specs.Shape.{Holds, Carries}
+use Rattle.protocol.specs.State.{State, Phase, passed, marking}
 use Rattle.protocol.specs.Invariant.{Inv}
-use Rattle.protocol.specs.Effects.{after-take, after-verify, after-write, after-save}
 use Rattle.protocol.specs.Steps as step
-use Rattle.protocol.specs.Steps.{Step, Moves, Reach}
-use Rattle.protocol.specs.Theorems.{MayTouch, as-held, as-listed, as-claimed}
-use Rattle.protocol.proofs.Words.{upd-other, none-some}
+use Rattle.protocol.proofs.Words.{upd-other, upd-same}
 use Rattle.protocol.proofs.Facts.{one-move}
-use Rattle.laws.specs.Numbers.{shape, slot-number, place-number, spot-number}
-use Rattle.laws.specs.Agree.{Agrees, num}
-use Rattle.laws.specs.Mine.{Mine, mine, row, Quiet, put-slot, put-held, put-hand, put-wiped, put-saved, put-known}
+use Rattle.laws.specs.Numbers.{shape, place-number}
+use Rattle.laws.specs.Agree.{Agrees}
+use Rattle.laws.specs.Mine.{Mine, mine, Quiet, put-phase}
 use Rattle.laws.specs.Owes as owes
-use Rattle.laws.specs.Owes.{Owes, new-held}
-use Rattle.laws.specs.Lists.{Settled, place-of, node-of}
-use Rattle.laws.specs.Points.{AtPoint, Firm, Opened, Empty, Naming, Room, TwoRooms, RoomBeside, HeldHere, Carried, Within, Steady, Cleanable, Cleaning, Before, During, clean-spot, next-spot}
+use Rattle.laws.specs.Owes.{Owes, Lists}
+use Rattle.laws.specs.Lists.{Settled, place-of, Unscanned, Stands, First, Filed}
+use Rattle.laws.specs.Points.{AtPoint, Firm, Scanning}
 use Rattle.laws.specs.Fits.{Lawful}
-use Rattle.laws.proofs.Rows.{upd-here, row-at, row-upd}
-use Rattle.laws.proofs.Words.{one-word}
-use Rattle.laws.proofs.Names.{same-num}
-use Rattle.laws.proofs.Rooms.{lowest-empty, beside, beside-on, one-room, beside-room, not-empty, naming-on, empty-on, firm-on, opens, opened-on, closes-none, closes}
-use Rattle.laws.proofs.Owed.{Turned, own-slot, ready-of, within}
-use Rattle.laws.proofs.Spots.{Spotted, spotted-below, spot-names, root-owner, link-owner, write-agrees, wrote, write-mine, counts-ended}
+use Rattle.laws.proofs.Rows.{upd-here, column-upd}
 use Rattle.laws.proofs.Seats.{Decided}
-use lib.Dec.{eqb, ltb, leb}
-use Rattle.std.proofs.shelf.Tests.{cond-both, ltb-true, eqb-true, eqb-false, leb-true, eq-eqb}
-use mathlib.Core.Path.{fun-ext}
-use Rattle.terms.specs.declared.Station.{Station}
-use Rattle.terms.specs.declared.Place.{Place}
 use Rattle.work.specs.declared.work.Reached.{Reached}
-use Rattle.work.specs.declared.work.Point.the-variants.{AskPlace, AskDone, AskPlaceAgain, CountFirst}
-use Rattle.work.specs.Plans.{station, place, position, head-of, reached}
-use Rattle.work.specs.Steps.{release-of, round-at, round-of, next-place, own-next, record-clean, link-clean, clean-at, scan-start, first-pass, deleted-of, place-found, done-of, again-of}
-use Rattle.protocol.specs.State.{Phase, resting, passed}
-use Rattle.protocol.specs.Effects.{after-reset-scan, after-look-again}
-use Rattle.laws.specs.Mine.{column, put-phase, put-read, put-seen, put-claiming, put-valid}
-use Rattle.laws.specs.Owes.{emptied-slot}
-use Rattle.laws.specs.Lists.{entry-at, Unscanned, Stands, First}
-use Rattle.laws.specs.Points.{Rounding}
-use Rattle.laws.proofs.Rows.{row-tells}
-use Rattle.laws.proofs.Rooms.{two-rooms}
+use Rattle.work.specs.declared.work.Point.the-variants.{CountFirst, CountAgain}
 use Rattle.laws.proofs.Walks.{Walk, over, at, walk}
-use Rattle.laws.proofs.Dereference.{clean-spotted, Found}
-use Rattle.protocol.proofs.Words.{upd-same, some-same}
 use Rattle.work.specs.declared.work.Entry.{Entry}
-use Rattle.work.specs.declared.work.Point.the-variants.{CountAgain, AskSlot, CountSecond, AskTrace, AskClaims, AskLink, Give}
-use Rattle.work.specs.Steps.{first-next, counted-first, counted-again}
-use Rattle.protocol.specs.State.{marking, gone, emptied}
 use Rattle.protocol.specs.Effects.{after-phase}
-use Rattle.laws.specs.Owes.{Lists}
-use Rattle.laws.specs.Lists.{Filed}
-use Rattle.laws.specs.Points.{Scanning}
-use Rattle.laws.proofs.Rows.{column-upd}
-use Rattle.laws.proofs.Owed.{own-place, listed-within}
+use Rattle.laws.proofs.Owed.{own-place}
 use lib.IntN.{ℤ, pos, negsuc}
 use Rattle.memory.specs.Found.{is-zero}
 
@@ -133,12 +82,13 @@ first-next-point z y some n m e f k firm c w d h others here = go (reached (n .l
         )
 
 module _ (z : Sizes) (y : Lawful z) (p : ℕ) (pS : p < z .stations) (pN : p < 8) (s : Shared) (f : ℕ → Standing) (a : State) (b : Inv shape a) (g : Agrees z s f a) (n : Notes) where
-  entry-lists : (e : Reached) → Stands n e → Filed (z .t1) (mine a p .lists) (n .list) (length (n .list)) [] → Quiet (mine a p) → Lists (mine a p) (e .entry .place .index) (e .entry .node .number)
-  entry-lists e w d k =
+  -- The record of an entry among the first k is listed.
+  pub entry-lists : (e : Reached) (k : ℕ) (ks : List Entry) → Stands n e → e .left < k → Filed (z .t1) (mine a p .lists) (n .list) k ks → Quiet (mine a p) → Lists (mine a p) (e .entry .place .index) (e .entry .node .number)
+  entry-lists e k ks w l d q =
       let u = y .t1 in
-      let l = d .front-low (e .left) (w .below) in
-      let at-place : place-of (n .list) (e .left) ≡ e .entry .place .index = ap (λ (x : Entry). x .place .index) (sym (w .here)) in
-      record { below = omega arith; full = ap (mine a p .lists) (sym at-place) ∙ d .front (e .left) (w .below) ∙ ap (λ (x : Entry). Some (x .node .number)) (sym (w .here)); quiet = k }
+      let low = d .front-low (e .left) l in
+      let here : place-of (n .list) (e .left) ≡ e .entry .place .index = ap (λ (x : Entry). x .place .index) (sym (w .here)) in
+      record { below = omega arith; full = ap (mine a p .lists) (sym here) ∙ d .front (e .left) l ∙ ap (λ (x : Entry). Some (x .node .number)) (sym (w .here)); quiet = q }
 
   phase-mine : (j : ℕ) (v : Phase) → mine (after-phase a (place-number p j) v) p ≡ put-phase (upd (mine a p .phase) j v) (mine a p)
   phase-mine j v = rw (column-upd (a .phase) p j v)
@@ -147,7 +97,7 @@ module _ (z : Sizes) (y : Lawful z) (p : ℕ) (pS : p < z .stations) (pN : p < 8
   pub count-first-turn : (e : Reached) (zero? : Bool) → AtPoint z n (CountFirst e) (mine a p) → Decided z p s f a n (quiet (counted-first e zero? n))
   count-first-turn e false (k, firm, c, d, w, h) =
       let j : ℕ = e .entry .place .index in
-      let l = entry-lists e w (d .filed) k in
+      let l = entry-lists e (length (n .list)) [] w (w .below) (d .filed) k in
       let at-place : place-of (n .list) (e .left) ≡ j = ap (λ (x : Entry). x .place .index) (sym (w .here)) in
       record {
         to = after-phase a (place-number p j) passed;
@@ -159,7 +109,7 @@ module _ (z : Sizes) (y : Lawful z) (p : ℕ) (pS : p < z .stations) (pN : p < 8
       }
   count-first-turn e true (k, firm, c, d, w, h) =
       let j : ℕ = e .entry .place .index in
-      let l = entry-lists e w (d .filed) k in
+      let l = entry-lists e (length (n .list)) [] w (w .below) (d .filed) k in
       let at-place : place-of (n .list) (e .left) ≡ j = ap (λ (x : Entry). x .place .index) (sym (w .here)) in
       record {
         to = after-phase a (place-number p j) marking;
@@ -174,7 +124,7 @@ module _ (z : Sizes) (y : Lawful z) (p : ℕ) (pS : p < z .stations) (pN : p < 8
   pub count-again-turn : (e : Reached) → AtPoint z n (CountAgain e) (mine a p) → Decided z p s f a n (quiet (counted-again e (is-zero (s .counts (e .entry .node .number))) n))
   count-again-turn e (k, firm, c, w, here, (v, d, h, others)) =
       let j : ℕ = e .entry .place .index in
-      let l = entry-lists e w (d .filed) k in
+      let l = entry-lists e (length (n .list)) [] w (w .below) (d .filed) k in
       go (is-zero (s .counts (e .entry .node .number))) refl j refl l
     where
       next : (j : ℕ) → j ≡ e .entry .place .index → AtPoint z n (first-pass (reached (n .list) (e .left))) (put-phase (upd (mine a p .phase) j passed) (mine a p))

@@ -1,9 +1,9 @@
 -- A write that a station owes is a step of the protocol, and what it still owes is right.
-use Prim.Native.Nat.{ℕ, min, _+_, _*_, _-_, _<_, _≤_}
+use Prim.Native.Nat.{ℕ, min, _+_, _-_, _<_, _≤_}
 use mathlib.Core.Path.{_≡_, refl, sym, ap, subst, _∙_}
 use mathlib.Core.Bool.{true, false}
 use mathlib.Core.Logic.{_⊎_, inl, inr}
-use mathlib.Core.List.{List, [], _∷_}
+use mathlib.Core.List.{List, _∷_}
 use native.Mathlib.Omega.{arith}
 use lib.IntN.{ℤ, pos, negsuc, _+ℤ_, _-ℤ_}
 use Rattle.std.specs.Numbers.{saturated}
@@ -30,7 +30,7 @@ use Rattle.protocol.proofs.Facts.{one-move}
 use Rattle.protocol.proofs.Promises.{touches-live, bounded}
 use Rattle.laws.specs.Numbers.{shape, slot-number, place-number}
 use Rattle.laws.specs.Agree.{Agrees, num}
-use Rattle.laws.specs.Mine.{Mine, mine, row, column, Quiet, put-wiped, put-owesUp, put-owesClear, put-owesDown, put-claiming, put-valid, put-place, put-phase, put-slot}
+use Rattle.laws.specs.Mine.{Mine, mine, Quiet, put-wiped, put-owesUp, put-owesClear, put-owesDown, put-claiming, put-valid, put-place, put-phase, put-slot}
 use Rattle.laws.specs.Owes as owes
 use Rattle.laws.specs.Owes.{Owes, Lists, emptied-slot, new-held}
 use Rattle.protocol.proofs.Words.{upd-other, upd-tells}

@@ -1,107 +1,55 @@
 -- SCAN, second pass: who is kept, and who is given back.
-use Prim.Native.Nat.{ℕ, zero, suc, _+_, _*_, _-_, _/_, _%_, _<_, _≤_}
+use Prim.Native.Nat.{ℕ, _+_, _-_, _<_, _≤_}
 use mathlib.Core.Path.{_≡_, refl, sym, ap, subst, _∙_}
-use mathlib.Core.Bool.{Bool, true, false, cond}
-use mathlib.Core.Logic.{_⊎_, inl, inr}
+use mathlib.Core.Bool.{Bool, true, false, not, _&&_}
+use mathlib.Core.Logic.{inl, inr}
 use mathlib.Core.List.{List, [], _∷_, _++_}
 use lib.ListN.{length}
 use native.Mathlib.Omega.{arith}
-use Rattle.std.proofs.shelf.Tests.{cases-eq, cases-lt, cases-bool, false≢true, cond-true, cond-false}
+use Rattle.std.proofs.shelf.Tests.{cases-lt, cond-both, eqb-true, eqb-false, and-parts, not-true}
 use Rattle.std.specs.declared.option.Option.{Option}
 use Rattle.std.specs.declared.option.Option.the-variants.{Some, None}
 use Rattle.terms.specs.declared.Record.{Record}
-use Rattle.terms.specs.declared.Slot.{Slot}
 use Rattle.terms.specs.declared.Position.{Position}
 use Rattle.terms.specs.declared.Spot.{Spot}
-use Rattle.terms.specs.declared.Spot.the-variants as at
-use Rattle.terms.specs.declared.Outcome.{Outcome}
 use Rattle.terms.specs.declared.Standing.{Standing}
-use Rattle.terms.specs.declared.Standing.the-variants.{Pooled, Fresh}
-use Rattle.terms.specs.Words.{is-none, lowest, same-name}
 use Rattle.memory.specs.declared.access.Write.{Write}
-use Rattle.memory.specs.Shared.{Shared, name-at, set-name, swapped, swap-answer}
-use Rattle.memory.specs.Standings.{set-standing, named}
-use Rattle.work.specs.declared.work.Clean.{Clean}
-use Rattle.work.specs.declared.work.Round.{Round}
-use Rattle.work.specs.declared.work.Round.the-variants.{Own, All}
-use Rattle.work.specs.declared.work.AfterLook.{AfterLook}
-use Rattle.work.specs.declared.work.AfterLook.the-variants as look
+use Rattle.memory.specs.Shared.{Shared}
+use Rattle.memory.specs.Standings.{named}
 use Rattle.work.specs.declared.work.AfterSwap.the-variants as swap
-use Rattle.work.specs.declared.work.AfterStore.{AfterStore}
 use Rattle.work.specs.declared.work.AfterStore.the-variants as store
 use Rattle.work.specs.declared.work.Point.{Point}
-use Rattle.work.specs.declared.work.Point.the-variants.{End, Take, Look, LookAgain, Verify, Swap, Save, Overwrite, AskDeleted}
-use Rattle.work.specs.Plans.{Plan, plan, Notes, Sight, slot}
-use Rattle.work.specs.Steps.{quiet, taken-of, looked-of, swapped-of, stored-of, counts-of}
+use Rattle.work.specs.declared.work.Point.the-variants.{Swap, Save, CountSecond, AskTrace, AskClaims, AskLink}
+use Rattle.work.specs.Plans.{Plan, plan, Notes, Sight, slot, place, position, reached, noted, kept-too, pushed}
+use Rattle.work.specs.Steps.{quiet, Turn, second-next, second-at, count-kept, counted-second, traced-of, claims-of}
 use Rattle.machine.specs.Tables.{Sizes, sight-in}
 use Rattle.protocol.specs.Words.{upd}
-use Rattle.protocol.specs.State.{State, giving}
-use Rattle.protocol.specs.Shape.{Holds, Carries}
+use Rattle.protocol.specs.State.{State, giving, passed, gone, emptied}
 use Rattle.protocol.specs.Invariant.{Inv}
-use Rattle.protocol.specs.Effects.{after-take, after-verify, after-write, after-save}
 use Rattle.protocol.specs.Steps as step
-use Rattle.protocol.specs.Steps.{Step, Moves, Reach}
-use Rattle.protocol.specs.Theorems.{MayTouch, as-held, as-listed, as-claimed}
-use Rattle.protocol.proofs.Words.{upd-other, none-some}
+use Rattle.protocol.proofs.Words.{upd-other}
 use Rattle.protocol.proofs.Facts.{one-move}
-use Rattle.laws.specs.Numbers.{shape, slot-number, place-number, spot-number}
-use Rattle.laws.specs.Agree.{Agrees, num}
-use Rattle.laws.specs.Mine.{Mine, mine, row, Quiet, put-slot, put-held, put-hand, put-wiped, put-saved, put-known}
+use Rattle.laws.specs.Numbers.{shape, place-number, spot-number}
+use Rattle.laws.specs.Agree.{Agrees}
+use Rattle.laws.specs.Mine.{Mine, mine, Quiet, put-phase, put-low}
 use Rattle.laws.specs.Owes as owes
-use Rattle.laws.specs.Owes.{Owes, new-held}
-use Rattle.laws.specs.Lists.{Settled, place-of, node-of}
-use Rattle.laws.specs.Points.{AtPoint, Firm, Opened, Empty, Naming, Room, TwoRooms, RoomBeside, HeldHere, Carried, Within, Steady, Cleanable, Cleaning, Before, During, clean-spot, next-spot}
+use Rattle.laws.specs.Owes.{Owes, Lists}
+use Rattle.laws.specs.Lists.{Settled, place-of, entry-at, Stands, Filed, Second}
+use Rattle.laws.specs.Points.{AtPoint, Firm, Scanning}
 use Rattle.laws.specs.Fits.{Lawful}
-use Rattle.laws.proofs.Rows.{upd-here, row-at, row-upd}
-use Rattle.laws.proofs.Words.{one-word}
-use Rattle.laws.proofs.Names.{same-num}
-use Rattle.laws.proofs.Rooms.{lowest-empty, beside, beside-on, one-room, beside-room, not-empty, naming-on, empty-on, firm-on, opens, opened-on, closes-none, closes}
-use Rattle.laws.proofs.Owed.{Turned, own-slot, ready-of, within}
-use Rattle.laws.proofs.Spots.{Spotted, spotted-below, spot-names, root-owner, link-owner, write-agrees, wrote, write-mine, counts-ended}
+use Rattle.laws.proofs.Rows.{upd-here, column-upd}
+use Rattle.laws.proofs.Rooms.{one-room}
+use Rattle.laws.proofs.Owed.{Turned, own-place, listed-within}
+use Rattle.laws.proofs.Spots.{Spotted, link-owner}
 use Rattle.laws.proofs.Seats.{Decided}
-use lib.Dec.{eqb, ltb, leb}
-use Rattle.std.proofs.shelf.Tests.{cond-both, ltb-true, eqb-true, eqb-false, leb-true, eq-eqb}
-use mathlib.Core.Path.{fun-ext}
-use Rattle.terms.specs.declared.Station.{Station}
-use Rattle.terms.specs.declared.Place.{Place}
+use lib.Dec.{eqb}
 use Rattle.work.specs.declared.work.Reached.{Reached}
-use Rattle.work.specs.declared.work.Point.the-variants.{AskPlace, AskDone, AskPlaceAgain, CountFirst}
-use Rattle.work.specs.Plans.{station, place, position, head-of, reached}
-use Rattle.work.specs.Steps.{release-of, round-at, round-of, next-place, own-next, record-clean, link-clean, clean-at, scan-start, first-pass, deleted-of, place-found, done-of, again-of}
-use Rattle.protocol.specs.State.{Phase, resting, passed}
-use Rattle.protocol.specs.Effects.{after-reset-scan, after-look-again}
-use Rattle.laws.specs.Mine.{column, put-phase, put-read, put-seen, put-claiming, put-valid}
-use Rattle.laws.specs.Owes.{emptied-slot}
-use Rattle.laws.specs.Lists.{entry-at, Unscanned, Stands, First}
-use Rattle.laws.specs.Points.{Rounding}
-use Rattle.laws.proofs.Rows.{row-tells}
-use Rattle.laws.proofs.Rooms.{two-rooms}
 use Rattle.laws.proofs.Walks.{Walk, over, at, walk}
-use Rattle.laws.proofs.Dereference.{clean-spotted, Found}
-use Rattle.protocol.proofs.Words.{upd-same, some-same}
 use Rattle.work.specs.declared.work.Entry.{Entry}
-use Rattle.work.specs.declared.work.Point.the-variants.{CountAgain, AskSlot, CountSecond, AskTrace, AskClaims, AskLink, Give}
-use Rattle.work.specs.Steps.{first-next, counted-first, counted-again}
-use Rattle.protocol.specs.State.{marking, gone, emptied}
-use Rattle.protocol.specs.Effects.{after-phase}
-use Rattle.laws.specs.Owes.{Lists}
-use Rattle.laws.specs.Lists.{Filed}
-use Rattle.laws.specs.Points.{Scanning}
-use Rattle.laws.proofs.Rows.{column-upd}
-use Rattle.laws.proofs.Owed.{own-place, listed-within}
-use mathlib.Core.Bool.{not, _&&_}
-use Rattle.std.proofs.shelf.Tests.{and-parts, not-true}
+use Rattle.protocol.specs.Effects.{after-phase, after-find-unclaimed}
 use Rattle.work.specs.declared.notes.Note.{Note}
-use Rattle.work.specs.Plans.{noted, kept-too, pushed}
-use Rattle.work.specs.Steps.{Turn, turn, second-next, second-at, scan-end, count-kept, counted-second, traced-of, claims-of, emptied-of, cleared-of, lower}
-use Rattle.terms.specs.declared.Standing.the-variants.{Retired}
-use Rattle.protocol.specs.Clauses.{giving-back}
-use Rattle.protocol.specs.Effects.{after-empty-place, after-find-unclaimed, after-begin-store, after-clear-link, after-give}
-use Rattle.protocol.proofs.Words.{upd-tells}
-use Rattle.laws.specs.Mine.{put-place, put-low, put-lists, put-storing}
-use Rattle.laws.specs.Lists.{Second, Through}
-use Rattle.laws.specs.Points.{Storing, Into}
-use Rattle.laws.proofs.Filing.{snoc-length, pushed-snoc, keeps, gives, shuts}
+use Rattle.laws.proofs.Marking.{entry-lists}
+use Rattle.laws.proofs.Filing.{snoc-length, pushed-snoc, keeps, shuts}
 
 -- An entry kept is filed with the kept ones.
 pub kept-filed : (t1 : ℕ) (lists : ℕ → Option ℕ) (es : List Entry) (k : ℕ) (ks : List Entry) (e : Entry) → t1 ≤ 64 → e ≡ entry-at es k → Filed t1 lists es (k + 1) ks → Filed t1 lists es k (pushed ks e)
@@ -142,13 +90,6 @@ module _ (z : Sizes) (y : Lawful z) (p : ℕ) (pS : p < z .stations) (pN : p < 8
   pub some-station : 0 < z .stations
   some-station = omega arith
 
-  pub entry-lists : (e : Reached) (ks : List Entry) → Stands n e → Filed (z .t1) (mine a p .lists) (n .list) (e .left + 1) ks → Quiet (mine a p) → Lists (mine a p) (e .entry .place .index) (e .entry .node .number)
-  entry-lists e ks w d k =
-      let u = y .t1 in
-      let l = d .front-low (e .left) (omega arith) in
-      let q = at-place n e w in
-      record { below = omega arith; full = ap (mine a p .lists) (sym q) ∙ d .front (e .left) (omega arith) ∙ ap (λ (x : Entry). Some (x .node .number)) (sym (w .here)); quiet = k }
-
   -- An entry before this one stands under another place.
   pub before-apart : (e : Reached) (ks : List Entry) → Stands n e → Filed (z .t1) (mine a p .lists) (n .list) (e .left + 1) ks → (i : ℕ) → i < e .left → place-of (n .list) i ≡ e .entry .place .index → ⊥
   before-apart e ks w d i l q = let h = d .front-apart i (e .left) (omega arith) (omega arith) (q ∙ sym (at-place n e w)) in omega arith
@@ -186,7 +127,7 @@ module _ (z : Sizes) (y : Lawful z) (p : ℕ) (pS : p < z .stations) (pN : p < 8
       passes marked unseen =
           let j : ℕ = e .entry .place .index in
           let r : ℕ = e .entry .node .number in
-          let l = entry-lists e (n .kept) w (d .filed) k in
+          let l = entry-lists z y p pS pN s f a b g n e (e .left + 1) (n .kept) w (omega arith) (d .filed) k in
           let m : Mine = mine a p in
           let low = listed-within z y p pS pN s f a b g j r l in
           record {
@@ -222,7 +163,7 @@ module _ (z : Sizes) (y : Lawful z) (p : ℕ) (pS : p < z .stations) (pN : p < 8
       cond-both (eqb (s .claims p (e .entry .place .index)) 0) _ _ (λ (x : Plan). Turned z p s f a (λ m. Owes (z .each) (AtPoint z n (x .point)) m (x .owed)))
       (λ t. let j : ℕ = e .entry .place .index in
       let r : ℕ = e .entry .node .number in
-      let l = entry-lists e (n .kept) w (d .filed) k in
+      let l = entry-lists z y p pS pN s f a b g n e (e .left + 1) (n .kept) w (omega arith) (d .filed) k in
       let m : Mine = mine a p in
       record {
         to = after-find-unclaimed a (place-number p j);

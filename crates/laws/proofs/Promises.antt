@@ -1,8 +1,8 @@
 -- What soundness promises of the table's own words.
-use Prim.Native.Nat.{ℕ, _+_, _*_, _/_, _<_, _≤_}
+use Prim.Native.Nat.{ℕ, _/_, _<_, _≤_}
 use mathlib.Core.Path.{_≡_, refl, sym, ap, subst, _∙_}
-use mathlib.Core.Logic.{_⊎_, inl, inr}
-use mathlib.Core.List.{List, []}
+use mathlib.Core.Logic.{inl, inr}
+use mathlib.Core.List.{[]}
 use lib.ListN.{length}
 use lib.IntN.{ℤ, pos, negℤ}
 use lib.Signed.{_≤ℤ_}
@@ -12,31 +12,31 @@ use Rattle.std.specs.declared.option.Option.the-variants.{Some, None}
 use Rattle.terms.specs.declared.Record.{Record}
 use Rattle.terms.specs.declared.Outcome.{Outcome}
 use Rattle.terms.specs.declared.Standing.{Standing}
-use Rattle.terms.specs.declared.Standing.the-variants.{Pooled, Fresh, Linked, Retired}
+use Rattle.terms.specs.declared.Standing.the-variants.{Pooled, Fresh}
 use Rattle.work.specs.declared.work.Point.the-variants.{End, Look}
 use Rattle.work.specs.declared.work.AfterLook.the-variants as look
-use Rattle.work.specs.Plans.{Plan, Notes}
-use Rattle.machine.specs.Tables.{Sizes, Table}
-use Rattle.protocol.specs.State.{State}
+use Rattle.work.specs.Plans.{Plan}
+use Rattle.machine.specs.Tables.{Table}
 use Rattle.protocol.specs.Shape.{Used}
 use Rattle.protocol.proofs.Promises.{bounded}
-use Rattle.protocol.proofs.Words.{none-some, some-same}
+use Rattle.protocol.proofs.Words.{none-some}
 use Rattle.laws.specs.Numbers.{shape, slot-number, place-number, link-number}
 use Rattle.laws.specs.Agree.{num}
-use Rattle.laws.specs.Mine.{Mine, mine}
+use Rattle.laws.specs.Mine.{mine}
 use Rattle.laws.specs.Owes as owes
 use Rattle.laws.specs.Lists.{place-of, node-of}
 use Rattle.laws.specs.Points.{AtPoint}
-use Rattle.laws.specs.Fits.{Lawful, Working, Sound}
-use Rattle.laws.specs.Theorems.{Run, fresh-table, begins, turns, RunsAreSound, SoundIsBounded, SoundIsSafe, IdleHold, SoundHolds, IdleEntry, SoundLists, TwoEmpty, CleanHasRoom}
+use Rattle.laws.specs.Fits.{Working, Sound}
+use Rattle.laws.specs.Theorems.{fresh-table, begins, turns, RunsAreSound, SoundIsBounded, SoundIsSafe, IdleHold, SoundHolds, IdleEntry, SoundLists, TwoEmpty, CleanHasRoom, SoundPool}
 use Rattle.laws.proofs.Rows.{row-at}
 use Rattle.laws.proofs.Turning.{turn-sound}
-use Rattle.laws.proofs.Beginning.{new-sound, begin-sound}
+use Rattle.laws.proofs.Checks.{new-sound}
+use Rattle.laws.proofs.Beginning.{begin-sound}
 
 pub runs-sound : RunsAreSound
 runs-sound z y t fresh-table = new-sound z y
-runs-sound z y t (begins {t = m} k p o e) = begin-sound m (runs-sound z y m k) p o e
-runs-sound z y t (turns {t = m} k p l w e pick h) = turn-sound m (runs-sound z y m k) p l w e pick h
+runs-sound z y t (begins {t = m} k p o e) = begin-sound m (runs-sound z y m k) p o e .sound
+runs-sound z y t (turns {t = m} k p l w e pick h) = turn-sound m (runs-sound z y m k) p l w e pick h .sound
 
 pub sound-bounded : SoundIsBounded
 sound-bounded t k = record {
@@ -110,3 +110,6 @@ clean-room t k p l q c e = go (subst (λ (i : Option Plan). Working (t .sizes) (
 
     go : owes.Owes (t .sizes .each) (AtPoint (t .sizes) (t .seats p .notes) (Look q (look.CleanLink c))) (mine (k .state) p) [] → TwoEmpty t p
     go (owes.paid (_, _, (_, _, (i, j, d, x, y)))) = record { one = i; other = j; apart = d; one-below = x .below; other-below = y .below; one-empty = empty i (x .below) (x .none); other-empty = empty j (y .below) (y .none) }
+
+pub sound-pool : SoundPool
+sound-pool t k = record { pooled = λ r e. k .fits .pooled r e .0; complete = k .fits .complete }

@@ -1,84 +1,38 @@
 -- CLEAN and CLEAN ALL, and the rounds of DELETE.
-use Prim.Native.Nat.{ℕ, _+_, _*_, _<_, _≤_}
-use mathlib.Core.Path.{_≡_, refl, sym, ap, subst, _∙_}
-use mathlib.Core.Bool.{Bool, true, false, cond}
-use mathlib.Core.Logic.{_⊎_, inl, inr}
+use Prim.Native.Nat.{ℕ, _+_, _<_, _≤_}
+use mathlib.Core.Path.{_≡_, refl, sym, ap, _∙_, fun-ext}
+use mathlib.Core.Bool.{Bool, false, cond}
+use mathlib.Core.Logic.{inl, inr}
 use mathlib.Core.List.{List, [], _∷_, _++_}
 use lib.ListN.{length}
 use native.Mathlib.Omega.{arith}
-use Rattle.std.proofs.shelf.Tests.{cases-eq, cases-lt, cases-bool, cond-true, cond-false}
+use Rattle.std.proofs.shelf.Tests.{cases-eq, cases-lt, cond-true, cond-both, ltb-true, eqb-false, eq-eqb}
 use Rattle.std.specs.declared.option.Option.{Option}
 use Rattle.std.specs.declared.option.Option.the-variants.{Some, None}
 use Rattle.terms.specs.declared.Record.{Record}
-use Rattle.terms.specs.declared.Slot.{Slot}
-use Rattle.terms.specs.declared.Position.{Position}
-use Rattle.terms.specs.declared.Spot.{Spot}
-use Rattle.terms.specs.declared.Spot.the-variants as at
-use Rattle.terms.specs.declared.Outcome.{Outcome}
-use Rattle.terms.specs.declared.Standing.{Standing}
-use Rattle.terms.specs.declared.Standing.the-variants.{Pooled, Fresh}
-use Rattle.terms.specs.Words.{is-none, lowest, same-name}
 use Rattle.memory.specs.declared.access.Write.{Write}
-use Rattle.memory.specs.Shared.{Shared, name-at, set-name, swapped, swap-answer}
-use Rattle.memory.specs.Standings.{set-standing, named}
-use Rattle.work.specs.declared.work.Clean.{Clean}
-use Rattle.work.specs.declared.work.Round.{Round}
-use Rattle.work.specs.declared.work.Round.the-variants.{Own, All}
-use Rattle.work.specs.declared.work.AfterLook.{AfterLook}
-use Rattle.work.specs.declared.work.AfterLook.the-variants as look
-use Rattle.work.specs.declared.work.AfterSwap.the-variants as swap
-use Rattle.work.specs.declared.work.AfterStore.{AfterStore}
-use Rattle.work.specs.declared.work.AfterStore.the-variants as store
-use Rattle.work.specs.declared.work.Point.{Point}
-use Rattle.work.specs.declared.work.Point.the-variants.{End, Take, Look, LookAgain, Verify, Swap, Save, Overwrite, AskDeleted}
-use Rattle.work.specs.Plans.{Plan, plan, Notes, Sight, slot}
-use Rattle.work.specs.Steps.{quiet, taken-of, looked-of, swapped-of, stored-of, counts-of}
-use Rattle.machine.specs.Tables.{Sizes, sight-in}
+use Rattle.work.specs.Plans.{Notes, Sight, slot, station, place, head-of}
+use Rattle.work.specs.Steps.{quiet, release-of, round-at, round-of, next-place, scan-start, first-pass}
+use Rattle.machine.specs.Tables.{Sizes}
 use Rattle.protocol.specs.Words.{upd}
-use Rattle.protocol.specs.State.{State, giving}
-use Rattle.protocol.specs.Shape.{Holds, Carries}
-use Rattle.protocol.specs.Invariant.{Inv}
-use Rattle.protocol.specs.Effects.{after-take, after-verify, after-write, after-save}
-use Rattle.protocol.specs.Steps as step
-use Rattle.protocol.specs.Steps.{Step, Moves, Reach}
-use Rattle.protocol.specs.Theorems.{MayTouch, as-held, as-listed, as-claimed}
-use Rattle.protocol.proofs.Words.{upd-other, none-some}
-use Rattle.protocol.proofs.Facts.{one-move}
-use Rattle.laws.specs.Numbers.{shape, slot-number, place-number, spot-number}
-use Rattle.laws.specs.Agree.{Agrees, num}
-use Rattle.laws.specs.Mine.{Mine, mine, row, Quiet, put-slot, put-held, put-hand, put-wiped, put-saved, put-known}
+use Rattle.protocol.specs.State.{State, Phase, resting}
+use Rattle.protocol.proofs.Words.{upd-other, none-some, upd-same}
+use Rattle.laws.specs.Numbers.{shape, place-number}
+use Rattle.laws.specs.Agree.{num}
+use Rattle.laws.specs.Mine.{Mine, mine, Quiet, put-slot, put-held, put-phase, put-read, put-seen}
 use Rattle.laws.specs.Owes as owes
-use Rattle.laws.specs.Owes.{Owes, new-held}
-use Rattle.laws.specs.Lists.{Settled, place-of, node-of}
-use Rattle.laws.specs.Points.{AtPoint, Firm, Opened, Empty, Naming, Room, TwoRooms, RoomBeside, HeldHere, Carried, Within, Steady, Cleanable, Cleaning, Before, During, clean-spot, next-spot}
+use Rattle.laws.specs.Owes.{Owes, emptied-slot}
+use Rattle.laws.specs.Lists.{place-of, Unscanned, First}
+use Rattle.laws.specs.Points.{AtPoint, Firm, Naming, TwoRooms, RoomBeside, HeldHere}
 use Rattle.laws.specs.Fits.{Lawful}
-use Rattle.laws.proofs.Rows.{upd-here, row-at, row-upd}
-use Rattle.laws.proofs.Words.{one-word}
-use Rattle.laws.proofs.Names.{same-num}
-use Rattle.laws.proofs.Rooms.{lowest-empty, beside, beside-on, one-room, beside-room, not-empty, naming-on, empty-on, firm-on, opens, opened-on, closes-none, closes}
-use Rattle.laws.proofs.Owed.{Turned, own-slot, ready-of, within}
-use Rattle.laws.proofs.Spots.{Spotted, spotted-below, spot-names, root-owner, link-owner, write-agrees, wrote, write-mine, counts-ended}
-use Rattle.laws.proofs.Seats.{Decided}
+use Rattle.laws.proofs.Rows.{upd-here}
+use Rattle.laws.proofs.Rooms.{beside, one-room, firm-on, two-rooms}
 use lib.Dec.{eqb, ltb, leb}
-use Rattle.std.proofs.shelf.Tests.{cond-both, ltb-true, eqb-true, eqb-false, leb-true, eq-eqb}
-use mathlib.Core.Path.{fun-ext}
 use Rattle.terms.specs.declared.Station.{Station}
 use Rattle.terms.specs.declared.Place.{Place}
 use Rattle.work.specs.declared.work.Reached.{Reached}
-use Rattle.work.specs.declared.work.Point.the-variants.{AskPlace, AskDone, AskPlaceAgain, CountFirst}
-use Rattle.work.specs.Plans.{station, place, position, head-of, reached}
-use Rattle.work.specs.Steps.{release-of, round-at, round-of, next-place, own-next, record-clean, link-clean, clean-at, scan-start, first-pass, deleted-of, place-found, done-of, again-of}
-use Rattle.protocol.specs.State.{Phase, resting, passed}
-use Rattle.protocol.specs.Effects.{after-reset-scan, after-look-again}
-use Rattle.laws.specs.Mine.{column, put-phase, put-read, put-seen, put-claiming, put-valid}
-use Rattle.laws.specs.Owes.{emptied-slot}
-use Rattle.laws.specs.Lists.{entry-at, Unscanned, Stands, First}
-use Rattle.laws.specs.Points.{Rounding}
-use Rattle.laws.proofs.Rows.{row-tells}
-use Rattle.laws.proofs.Rooms.{two-rooms}
+use Rattle.protocol.specs.Effects.{after-reset-scan}
 use Rattle.laws.proofs.Walks.{Walk, over, at, walk}
-use Rattle.laws.proofs.Dereference.{clean-spotted, Found}
-use Rattle.protocol.proofs.Words.{upd-same, some-same}
 
 -- what the station has of its own once its scan knows nothing
 abbrev pub rested : Mine → Mine
@@ -131,7 +85,7 @@ both-releases {each = each} {At = At} m (Some t) r l k u q firm below d w v on =
         inside j h e = elim (cases-eq j h) [ inl y ↦ absurd (none-some (sym (upd-same (m .slot) j None h y) ∙ e)) | inr x ↦ below h (r .number) (sym (upd-other (m .slot) j None h x) ∙ e) ]
 
 -- Where a round begins: nothing is owed or claimed, two slots are empty, and the scan knows nothing.
-pub record Ready (z : Sizes) (n : Notes) (m : Mine) : Type 0 where
+pub record RoundReady (z : Sizes) (n : Notes) (m : Mine) : Type 0 where
   pub quiet : Quiet m
   pub firm : Firm (m .slot) (m .held)
   pub unscanned : Unscanned (z .t1) n (m .lists) (m .place) (m .phase)
@@ -141,11 +95,11 @@ pub record Ready (z : Sizes) (n : Notes) (m : Mine) : Type 0 where
   pub claimless : m .claiming ≡ None
   pub rooms : TwoRooms (z .each) (m .slot)
 
-pub first-of : (z : Sizes) (n : Notes) (m : Mine) (k : ℕ) → Ready z n m → length (n .list) ≤ k → First n (m .phase) (m .read) (m .seen) k
+pub first-of : (z : Sizes) (n : Notes) (m : Mine) (k : ℕ) → RoundReady z n m → length (n .list) ≤ k → First n (m .phase) (m .read) (m .seen) k
 first-of z n m k c l = record { ahead = λ i h. c .rests (place-of (n .list) i); behind = λ i h j. absurd (omega arith); unread = c .unread; none-seen = c .unseen }
 
 -- SCAN begins at the head of the list.
-pub scan-point : (z : Sizes) (n : Notes) (m : Mine) → Ready z n m → 0 < length (n .list) → AtPoint z n (scan-start n) m
+pub scan-point : (z : Sizes) (n : Notes) (m : Mine) → RoundReady z n m → 0 < length (n .list) → AtPoint z n (scan-start n) m
 scan-point z n m c l = go (head-of (n .list)) (walk (n .list) (length (n .list)) (omega arith))
   where
     go : (x : Option Reached) → Walk (n .list) (length (n .list)) x → AtPoint z n (first-pass x) m
@@ -153,7 +107,7 @@ scan-point z n m c l = go (head-of (n .list)) (walk (n .list) (length (n .list))
     go (Some e) (at _ k h) = (c .quiet, c .firm, (c .claimless, c .rooms), c .unscanned, record { below = omega arith; here = h }, first-of z n m (e .left + 1) c (omega arith))
 
 -- A round: CLEAN from the head, or SCAN, or the end.
-pub round-point : (z : Sizes) → Lawful z → (n : Notes) (m : Mine) (u : Sight) → u .t1 ≡ z .t1 → Ready z n m → AtPoint z n (round-of u n) m
+pub round-point : (z : Sizes) → Lawful z → (n : Notes) (m : Mine) (u : Sight) → u .t1 ≡ z .t1 → RoundReady z n m → AtPoint z n (round-of u n) m
 round-point z y n m u same c = go (head-of (n .list)) (walk (n .list) (length (n .list)) (omega arith))
   where
     go : (x : Option Reached) → Walk (n .list) (length (n .list)) x → AtPoint z n (round-at u n x) m
@@ -170,7 +124,7 @@ round-point z y n m u same c = go (head-of (n .list)) (walk (n .list) (length (n
         shorter k d l = elim (cases-lt k (z .t1)) [ inl i ↦ i | inr i ↦ absurd (d (omega arith)) ]
 
 -- CLEAN ALL: the next place, or another round.
-pub next-point : (z : Sizes) → Lawful z → (n : Notes) (m : Mine) (u : Sight) → u .t1 ≡ z .t1 → u .stations ≡ z .stations → (q : Station) (i : Place) → q .number < z .stations → Ready z n m →
+pub next-point : (z : Sizes) → Lawful z → (n : Notes) (m : Mine) (u : Sight) → u .t1 ≡ z .t1 → u .stations ≡ z .stations → (q : Station) (i : Place) → q .number < z .stations → RoundReady z n m →
     AtPoint z n (next-place q i u n) m
 next-point z y n m u same most q i l c =
     cond-both (ltb (i .index + 1) (u .t1)) _ _ (λ x. AtPoint z n x m)

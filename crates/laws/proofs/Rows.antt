@@ -3,12 +3,11 @@ use Prim.Native.Nat.{ℕ, _+_, _*_, _<_, _≤_}
 use mathlib.Core.Path.{_≡_, refl, sym, ap, _∙_, fun-ext}
 use mathlib.Core.Logic.{_⊎_, inl, inr}
 use native.Mathlib.Omega.{arith}
-use lib.Dec.{ltb}
 use Rattle.std.proofs.shelf.Tests.{cases-eq, cases-lt, cond-true, cond-false, lt-ltb, le-ltb}
 use Rattle.std.specs.declared.option.Option.{Option}
-use Rattle.std.specs.declared.option.Option.the-variants.{Some, None}
+use Rattle.std.specs.declared.option.Option.the-variants.{None}
 use Rattle.protocol.specs.Words.{Names, upd}
-use Rattle.protocol.proofs.Words.{upd-same, upd-other, upd-tells}
+use Rattle.protocol.proofs.Words.{upd-same, upd-other}
 use Rattle.laws.specs.Numbers.{slot-number, place-number}
 use Rattle.laws.specs.Mine.{row, column}
 

@@ -1,17 +1,13 @@
 -- A turn of one station leaves the others as they were, so the whole table fits again.
-use Prim.Native.Nat.{ℕ, _+_, _*_, _<_, _≤_}
-use mathlib.Core.Path.{_≡_, refl, sym, ap, subst, _∙_, fun-ext}
+use Prim.Native.Nat.{ℕ, _<_}
+use mathlib.Core.Path.{_≡_, sym, ap, subst}
 use mathlib.Core.Bool.{Bool, true}
-use mathlib.Core.Logic.{_⊎_, inl, inr}
+use mathlib.Core.Logic.{inl, inr}
 use mathlib.Core.List.{List, [], _∷_}
 use native.Mathlib.Omega.{arith}
-use Rattle.std.proofs.shelf.Tests.{cases-eq}
 use Rattle.std.specs.declared.option.Option.{Option}
-use Rattle.std.specs.declared.option.Option.the-variants.{Some, None}
-use Rattle.terms.specs.declared.Outcome.{Outcome}
 use Rattle.terms.specs.declared.Standing.{Standing}
 use Rattle.terms.specs.declared.Standing.the-variants.{Pooled}
-use Rattle.terms.specs.Words.{put}
 use Rattle.terms.proofs.Puts.{put-tells}
 use Rattle.memory.specs.Shared.{Shared}
 use Rattle.memory.specs.declared.access.Write.{Write}
@@ -22,16 +18,14 @@ use Rattle.work.specs.Steps.{Turn, settled, settle}
 use Rattle.machine.specs.Tables.{Sizes, Seat, Table}
 use Rattle.machine.specs.Steps.{work-after, seated}
 use Rattle.protocol.specs.State.{State}
-use Rattle.protocol.specs.Own.{Untouched, SlotWords, PlaceWords, StationWords}
-use Rattle.protocol.specs.Invariant.{Inv}
+use Rattle.protocol.specs.Own.{Untouched, SlotWords, PlaceWords}
 use Rattle.protocol.proofs.Turns.{turns}
 use Rattle.laws.specs.Numbers.{shape, slot-number, place-number}
-use Rattle.laws.specs.Agree.{Agrees}
-use Rattle.laws.specs.Mine.{Mine, mine, row, column}
+use Rattle.laws.specs.Mine.{Mine, mine}
 use Rattle.laws.specs.Owes as owes
 use Rattle.laws.specs.Owes.{Owes}
 use Rattle.laws.specs.Points.{AtPoint}
-use Rattle.laws.specs.Fits.{Lawful, Working, Seated, Fits, Sound}
+use Rattle.laws.specs.Fits.{Working, Seated, Sound, Follows}
 use Rattle.laws.proofs.Rows.{row-same}
 use Rattle.laws.proofs.Owed.{Turned}
 
@@ -101,23 +95,28 @@ module _ (t : Table) (k : Sound t) (p : ℕ) (pS : p < t .sizes .stations) where
   pub sound-after : (s : Shared) (f : ℕ → Standing) (w : Option Plan) (n : Notes) (pool : ℕ → Bool) →
       (x : Turned (t .sizes) p s f (k .state) (λ m. Working (t .sizes) n m w)) →
       ((r : ℕ) → pool r ≡ true → (f r ≡ Pooled) × (r < t .sizes .records)) →
-      Sound (record { sizes = t .sizes; shared = s; standing = f; seats = seated (t .seats) p w n; pool = pool })
-  sound-after s f w n pool x pools =
+      ((r : ℕ) → r < t .sizes .records → f r ≡ Pooled → pool r ≡ true) →
+      Follows t k p (record { sizes = t .sizes; shared = s; standing = f; seats = seated (t .seats) p w n; pool = pool })
+  sound-after s f w n pool x pools complete =
       let a = k .state in
       let b = x .to in
       let size = k .lawful .stations in
       let turn = turns shape a p (omega arith) (k .inv) b (x .moves) in
       record {
-        lawful = k .lawful;
-        state = b;
-        inv = turn .inv;
-        fits = record {
-          agrees = x .agrees;
-          pooled = pools;
-          seats = λ z zS. elim (put-tells 8 (t .seats) p (record { work = w; notes = n }) z) [
-            | inl (e, y, _) ↦ subst (λ (s : Seat). Seated (t .sizes) s (mine b z)) (sym e) (subst (λ (i : ℕ). Working (t .sizes) n (mine b i) w) y (x .after))
-            | inr (e, d) ↦ subst (λ (s : Seat). Seated (t .sizes) s (mine b z)) (sym e)
-                (subst (λ (m : Mine). Seated (t .sizes) (t .seats z) m) (sym (others-mine a b p z (omega arith) (λ y. d (sym y) (omega arith)) (turn .others))) (k .fits .seats z zS))
-          ];
+        moves = x .moves;
+        sound = record {
+          lawful = k .lawful;
+          state = b;
+          inv = turn .inv;
+          fits = record {
+            agrees = x .agrees;
+            pooled = pools;
+            complete = complete;
+            seats = λ z zS. elim (put-tells 8 (t .seats) p (record { work = w; notes = n }) z) [
+              | inl (e, y, _) ↦ subst (λ (s : Seat). Seated (t .sizes) s (mine b z)) (sym e) (subst (λ (i : ℕ). Working (t .sizes) n (mine b i) w) y (x .after))
+              | inr (e, d) ↦ subst (λ (s : Seat). Seated (t .sizes) s (mine b z)) (sym e)
+                  (subst (λ (m : Mine). Seated (t .sizes) (t .seats z) m) (sym (others-mine a b p z (omega arith) (λ y. d (sym y) (omega arith)) (turn .others))) (k .fits .seats z zS))
+            ];
+          };
         };
       }

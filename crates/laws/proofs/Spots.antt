@@ -1,10 +1,9 @@
 -- What a spot names, and a name written into it.
-use Prim.Native.Nat.{ℕ, _+_, _*_, _-_, _/_, _<_, _≤_}
-use mathlib.Core.Path.{_≡_, refl, sym, ap, subst, _∙_}
-use mathlib.Core.Logic.{_⊎_, inl, inr}
-use mathlib.Core.List.{List, [], _∷_, _++_}
+use Prim.Native.Nat.{ℕ, _+_, _-_, _<_, _≤_}
+use mathlib.Core.Path.{_≡_, refl, sym, ap, _∙_}
+use mathlib.Core.Logic.{inl, inr}
+use mathlib.Core.List.{List, [], _++_}
 use native.Mathlib.Omega.{arith}
-use Rattle.std.proofs.shelf.Tests.{cases-lt}
 use Rattle.std.specs.declared.option.Option.{Option}
 use Rattle.std.specs.declared.option.Option.the-variants.{Some, None}
 use Rattle.terms.specs.declared.Record.{Record}
@@ -12,7 +11,6 @@ use Rattle.terms.specs.declared.Spot.{Spot}
 use Rattle.terms.specs.declared.Spot.the-variants as at
 use Rattle.terms.specs.declared.Standing.{Standing}
 use Rattle.terms.specs.declared.Standing.the-variants.{Pooled, Fresh, Linked, Retired}
-use Rattle.terms.specs.Words.{put, put-in}
 use Rattle.terms.proofs.Puts.{put-tells}
 use Rattle.memory.specs.declared.access.Write.{Write}
 use Rattle.memory.specs.Shared.{Shared, name-at, set-name}
@@ -23,8 +21,8 @@ use Rattle.protocol.specs.Words.{upd}
 use Rattle.protocol.specs.State.{State}
 use Rattle.protocol.specs.Shape.{link, linking}
 use Rattle.protocol.specs.Effects.{after-write}
-use Rattle.protocol.proofs.Words.{upd-same, upd-other, linking-tells, none-some, some-same}
-use Rattle.laws.specs.Numbers.{shape, link-number, spot-number, owner-of, owner-tells}
+use Rattle.protocol.proofs.Words.{upd-same, upd-other, linking-tells}
+use Rattle.laws.specs.Numbers.{link-number, spot-number, owner-of, owner-tells}
 use Rattle.laws.specs.Agree.{Agrees, num}
 use Rattle.laws.specs.Mine.{Mine, mine, put-owesUp, put-owesClear, put-owesDown, put-storing}
 use Rattle.laws.specs.Owes as owes

@@ -1,19 +1,19 @@
 -- Every turn of every station keeps the table sound.
-use Prim.Native.Nat.{ℕ, _+_, _<_, _≤_}
+use Prim.Native.Nat.{ℕ, _<_, _≤_}
 use mathlib.Core.Path.{_≡_, refl, sym, ap, subst, _∙_}
 use mathlib.Core.Bool.{Bool, true, false, cond}
-use mathlib.Core.Logic.{_⊎_, inl, inr}
+use mathlib.Core.Logic.{inl, inr}
 use mathlib.Core.List.{List, [], _∷_}
 use native.Mathlib.Omega.{arith}
 use lib.Dec.{eqb}
-use Rattle.std.proofs.shelf.Tests.{cases-eq, cases-bool, cond-true, cond-false, eq-eqb, ne-eqb, false≢true}
+use Rattle.std.proofs.shelf.Tests.{cases-eq, cond-true, cond-false, eq-eqb, ne-eqb, false≢true}
 use Rattle.std.specs.declared.option.Option.{Option}
 use Rattle.std.specs.declared.option.Option.the-variants.{Some, None}
 use Rattle.terms.specs.declared.Record.{Record}
 use Rattle.terms.specs.declared.Spot.{Spot}
 use Rattle.terms.specs.declared.Standing.{Standing}
-use Rattle.terms.specs.declared.Standing.the-variants.{Pooled, Fresh, Linked, Retired}
-use Rattle.terms.specs.Words.{put, same-name}
+use Rattle.terms.specs.declared.Standing.the-variants.{Pooled, Fresh}
+use Rattle.terms.specs.Words.{same-name}
 use Rattle.terms.proofs.Puts.{put-tells}
 use Rattle.memory.specs.declared.access.Write.{Write}
 use Rattle.memory.specs.declared.access.WordAccess.{WordAccess}
@@ -23,27 +23,26 @@ use Rattle.memory.specs.declared.access.Access.the-variants as access
 use Rattle.memory.specs.declared.access.Found.{Found}
 use Rattle.memory.specs.Found.{is-zero, flag-in}
 use Rattle.memory.specs.Shared.{Shared, name-at, set-name}
-use Rattle.memory.specs.Standings.{named, once-named, standing-word, set-standing}
+use Rattle.memory.specs.Standings.{named, once-named, standing-word}
 use Rattle.work.specs.declared.work.AfterSwap.{AfterSwap}
 use Rattle.work.specs.declared.work.AfterSwap.the-variants as swap
-use Rattle.work.specs.declared.work.AfterStore.{AfterStore}
 use Rattle.work.specs.declared.work.AfterStore.the-variants as store
 use Rattle.work.specs.declared.work.Point.{Point}
 use Rattle.work.specs.declared.work.Point.the-variants.{End, Take, Look, LookAgain, Verify, Swap, Save, Overwrite, AskDeleted, AskPlace, AskDone, AskPlaceAgain, CountFirst, CountAgain, AskSlot, CountSecond, AskTrace, AskClaims, AskLink, Give}
-use Rattle.work.specs.Plans.{Plan, plan, Notes, noted, access-at, next-access, access-of}
-use Rattle.work.specs.Steps.{quiet, decide-of, swapped-of, advanced, note-made}
-use Rattle.machine.specs.Tables.{Sizes, Seat, Table, sight-in, record-numbered}
+use Rattle.work.specs.Plans.{Plan, Notes, noted, access-at, next-access, access-of}
+use Rattle.work.specs.Steps.{decide-of, swapped-of, advanced, note-made}
+use Rattle.machine.specs.Tables.{Sizes, Table, sight-in, record-numbered}
 use Rattle.machine.specs.Steps.{found-in, shared-after, standing-then, pool-after, work-after, turned}
 use Rattle.protocol.specs.State.{State}
 use Rattle.protocol.specs.Invariant.{Inv}
 use Rattle.protocol.specs.Steps as step
 use Rattle.laws.specs.Numbers.{shape}
 use Rattle.laws.specs.Agree.{Agrees}
-use Rattle.laws.specs.Mine.{Mine, mine}
+use Rattle.laws.specs.Mine.{mine}
 use Rattle.laws.specs.Owes as owes
 use Rattle.laws.specs.Owes.{Owes}
 use Rattle.laws.specs.Points.{AtPoint}
-use Rattle.laws.specs.Fits.{Lawful, Working, Seated, Fits, Sound}
+use Rattle.laws.specs.Fits.{Lawful, Working, Sound, Follows}
 use Rattle.laws.proofs.Owed.{Turned, pay}
 use Rattle.laws.proofs.Seats.{settles, Decided, decided-works, sound-after}
 use Rattle.laws.proofs.Taking.{take-none, take-some}
@@ -151,7 +150,52 @@ module _ (M : ℕ) (small : M ≤ 128) (pool : ℕ → Bool) (f : ℕ → Standi
   ]
   pool-kept s p pick (Some (access.Word w)) r e = let (u, l) = all r e in (word-pooled w (found-in s pick p (Some (access.Word w))) r u, l)
 
-pub turn-sound : (t : Table) → Sound t → (p : ℕ) → p < t .sizes .stations → (w : Plan) → t .seats p .work ≡ Some w → (pick : Option ℕ) → ((r : ℕ) → pick ≡ Some r → t .pool r ≡ true) → Sound (turned t pick p w)
+-- And every pooled record of the table stays in the pool.
+module _ (M : ℕ) (small : M ≤ 128) (pool : ℕ → Bool) (f : ℕ → Standing) (all : (r : ℕ) → r < M → f r ≡ Pooled → pool r ≡ true) where
+  was-pooled : (u : Standing) → once-named u ≡ Pooled → u ≡ Pooled
+  was-pooled u e = grind arith
+
+  fresh-not : Fresh ≡ Pooled → ⊥
+  fresh-not e = grind arith
+
+  named-was : (v : Option Record) (r : ℕ) → named f v r ≡ Pooled → f r ≡ Pooled
+  named-was None r e = e
+  named-was (Some x) r e = elim (put-tells 128 f (x .number) (once-named (f (x .number))) r) [
+    | inl (q, i, _) ↦ ap f (sym i) ∙ was-pooled (f (x .number)) (sym q ∙ e)
+    | inr (q, _) ↦ sym q ∙ e
+  ]
+
+  cond-was : (t : Bool) (v : Option Record) (r : ℕ) → cond t (named f v) f r ≡ Pooled → f r ≡ Pooled
+  cond-was true v r e = named-was v r e
+  cond-was false v r e = e
+
+  word-was : (w : WordAccess) (h : Found) (r : ℕ) → standing-word f w h r ≡ Pooled → f r ≡ Pooled
+  word-was (word.Look q) h r e = e
+  word-was (word.Swap q o v) h r e = cond-was (flag-in h) v r e
+  word-was (word.Overwrite q v) h r e = named-was v r e
+  word-was (word.AskDeleted x) h r e = e
+  word-was (word.AskPlace q i) h r e = e
+  word-was (word.AskDone q i) h r e = e
+  word-was (word.AskCount x) h r e = e
+  word-was (word.AskSlot q i) h r e = e
+  word-was (word.AskTrace x) h r e = e
+  word-was (word.AskClaims i) h r e = e
+  word-was (word.Change w) h r e = e
+
+  pub pool-whole : (s : Shared) (p : ℕ) (pick : Option ℕ) → ((r : ℕ) → pick ≡ Some r → r < M) → (x : Option Access) (r : ℕ) → r < M → standing-then f x (found-in s pick p x) r ≡ Pooled → pool-after M pool pick x r ≡ true
+  pool-whole s p pick own None r l e = all r l e
+  pool-whole s p None own (Some access.Take) r l e = all r l e
+  pool-whole s p (Some q) own (Some access.Take) r l e = elim (put-tells 128 f q Fresh r) [
+    | inl (h, _, _) ↦ absurd (fresh-not (sym h ∙ e))
+    | inr (h, d) ↦ let k = own q refl in cond-false (eqb q r) false (pool r) (ne-eqb q r (λ i. d i (omega arith))) ∙ all r l (sym h ∙ e)
+  ]
+  pool-whole s p pick own (Some (access.Give x)) r l e = elim (put-tells M pool (x .number) true r) [
+    | inl (h, _, _) ↦ h
+    | inr (h, d) ↦ elim (put-tells 128 f (x .number) Pooled r) [ inl (_, i, _) ↦ absurd (d i (omega arith)) | inr (c, _) ↦ h ∙ all r l (sym c ∙ e) ]
+  ]
+  pool-whole s p pick own (Some (access.Word w)) r l e = all r l (word-was w (found-in s pick p (Some (access.Word w))) r e)
+
+pub turn-sound : (t : Table) (k : Sound t) → (p : ℕ) → p < t .sizes .stations → (w : Plan) → t .seats p .work ≡ Some w → (pick : Option ℕ) → ((r : ℕ) → pick ≡ Some r → t .pool r ≡ true) → Follows t k p (turned t pick p w)
 turn-sound t k p pS w e pick lawful =
     let most = k .lawful .stations in
     let n = t .seats p .notes in
@@ -161,3 +205,4 @@ turn-sound t k p pS w e pick lawful =
     (plan-turn (t .sizes) (k .lawful) p pS (omega arith) (t .shared) (t .standing) (k .state) (k .inv) (k .fits .agrees) (t .seats p .notes) pick
     (λ r h. let (u, l) = k .fits .pooled r (lawful r h) in (k .fits .agrees .standings r ∙ u, l)) (w .owed) (w .point) o)
     (pool-kept (t .sizes .records) (k .lawful .records) (t .pool) (t .standing) (k .fits .pooled) (t .shared) p pick (access-of w))
+    (pool-whole (t .sizes .records) (k .lawful .records) (t .pool) (t .standing) (k .fits .complete) (t .shared) p pick (λ r h. k .fits .pooled r (lawful r h) .1) (access-of w))

@@ -1,21 +1,17 @@
 -- Walks down a list, and the entries that are filed as it changes.
-use Prim.Native.Nat.{ℕ, zero, suc, _+_, _-_, _<_, _≤_}
-use mathlib.Core.Path.{_≡_, refl, sym, ap, subst, _∙_}
-use mathlib.Core.Bool.{Bool, true, false, cond}
-use mathlib.Core.Logic.{_⊎_, inl, inr}
-use mathlib.Core.List.{List, [], _∷_, _++_}
-use lib.ListN.{length, getD}
+use Prim.Native.Nat.{ℕ, zero, suc, _+_, _-_, _≤_}
+use mathlib.Core.Path.{_≡_, refl, sym, subst}
+use mathlib.Core.List.{List}
+use lib.ListN.{length}
 use lib.Dec.{ltb}
 use native.Mathlib.Omega.{arith}
-use Rattle.std.proofs.shelf.Tests.{cases-eq, cases-lt, cond-true, lt-ltb}
+use Rattle.std.proofs.shelf.Tests.{cond-true, lt-ltb}
 use Rattle.std.specs.declared.option.Option.{Option}
 use Rattle.std.specs.declared.option.Option.the-variants.{Some, None}
 use Rattle.work.specs.declared.work.Entry.{Entry}
 use Rattle.work.specs.declared.work.Reached.{Reached}
-use Rattle.work.specs.Plans.{reached, pushed}
-use Rattle.protocol.specs.Words.{Names, upd}
-use Rattle.protocol.proofs.Words.{upd-same, upd-other, none-some}
-use Rattle.laws.specs.Lists.{entry-at, place-of, node-of, Filed}
+use Rattle.work.specs.Plans.{reached}
+use Rattle.laws.specs.Lists.{entry-at}
 
 -- A walk with k entries before it comes to the next one, unless k is 0.
 pub data Walk (es : List Entry) (k : ℕ) : Option Reached → Type 0 where

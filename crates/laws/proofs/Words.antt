@@ -1,13 +1,11 @@
 -- A word of the table changed within its bounds is the same word of the protocol's state changed.
-use Prim.Native.Nat.{ℕ, _+_, _*_, _<_, _≤_}
-use mathlib.Core.Path.{_≡_, refl, sym, ap, _∙_}
+use Prim.Native.Nat.{ℕ, _<_}
+use mathlib.Core.Path.{_≡_, sym, ap, _∙_}
 use mathlib.Core.Logic.{_⊎_, inl, inr}
-use native.Mathlib.Omega.{arith}
-use Rattle.std.proofs.shelf.Tests.{cases-eq}
 use Rattle.terms.specs.Words.{put, put-in}
 use Rattle.terms.proofs.Puts.{put-tells}
 use Rattle.protocol.specs.Words.{upd}
-use Rattle.protocol.proofs.Words.{upd-same, upd-other, upd-tells}
+use Rattle.protocol.proofs.Words.{upd-same, upd-other}
 
 -- A word of a row of words.
 pub one-word : {A : Type 0} (n : ℕ) (g f : ℕ → A) (r : ℕ) (v : A) → r < n → ((j : ℕ) → g j ≡ f j) → (j : ℕ) → upd g r v j ≡ put n f r v j

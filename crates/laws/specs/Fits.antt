@@ -11,7 +11,8 @@ use Rattle.work.specs.Plans.{Plan, Notes}
 use Rattle.machine.specs.Tables.{Sizes, Seat, Table}
 use Rattle.protocol.specs.State.{State}
 use Rattle.protocol.specs.Invariant.{Inv}
-use Rattle.laws.specs.Numbers.{shape, slot-number}
+use Rattle.protocol.specs.Steps.{Moves}
+use Rattle.laws.specs.Numbers.{shape}
 use Rattle.laws.specs.Agree.{Agrees}
 use Rattle.laws.specs.Mine.{Mine, mine}
 use Rattle.laws.specs.Owes.{Owes}
@@ -41,8 +42,9 @@ Seated z s m = Working z (s .notes) m (s .work)
 
 pub record Fits (t : Table) (a : State) : Type 0 where
   pub agrees : Agrees (t .sizes) (t .shared) (t .standing) a
-  -- What lies in the pool is pooled, and is of the table.
+  -- What lies in the pool is pooled, and is of the table; and every pooled record of the table lies in the pool.
   pub pooled : (r : ℕ) → t .pool r ≡ true → (t .standing r ≡ Pooled) × (r < t .sizes .records)
+  pub complete : (r : ℕ) → r < t .sizes .records → t .standing r ≡ Pooled → t .pool r ≡ true
   pub seats : (p : ℕ) → p < t .sizes .stations → Seated (t .sizes) (t .seats p) (mine a p)
 
 -- A table is sound if it fits some state in which the protocol's invariant holds.
@@ -51,3 +53,8 @@ pub record Sound (t : Table) : Type 0 where
   pub state : State
   pub inv : Inv shape state
   pub fits : Fits t state
+
+-- The table after what the station p did is sound, and is led to by moves of p that the protocol allows.
+pub record Follows (t : Table) (k : Sound t) (p : ℕ) (u : Table) : Type 0 where
+  pub sound : Sound u
+  pub moves : Moves shape (k .state) p (sound .state)

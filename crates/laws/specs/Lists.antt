@@ -5,13 +5,12 @@ use mathlib.Core.Bool.{Bool, false}
 use mathlib.Core.Logic.{_⊎_}
 use mathlib.Core.List.{List, []}
 use lib.ListN.{length, getD}
-use Rattle.std.specs.declared.option.Option.{Option}
 use Rattle.std.specs.declared.option.Option.the-variants.{Some, None}
 use Rattle.work.specs.declared.work.Entry.{Entry}
 use Rattle.work.specs.declared.work.Reached.{Reached}
 use Rattle.work.specs.Plans.{Notes, place}
 use Rattle.protocol.specs.Words.{Names}
-use Rattle.protocol.specs.State.{Phase, resting, marking, passed}
+use Rattle.protocol.specs.State.{Phase, resting, passed}
 use Rattle.laws.specs.Mine.{Mine}
 
 -- the entry at index k of a list, its place and its record

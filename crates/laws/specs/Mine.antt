@@ -1,12 +1,12 @@
 -- What one station has of its own in a state of the protocol: what nobody else changes.
-use Prim.Native.Nat.{ℕ, _+_, _*_}
+use Prim.Native.Nat.{ℕ}
 use mathlib.Core.Path.{_≡_}
-use mathlib.Core.Bool.{Bool, true, cond}
+use mathlib.Core.Bool.{Bool, cond}
 use lib.Dec.{ltb}
 use Rattle.std.specs.declared.option.Option.{Option}
-use Rattle.std.specs.declared.option.Option.the-variants.{Some, None}
-use Rattle.protocol.specs.Words.{Names, upd}
-use Rattle.protocol.specs.State.{State, Phase, resting, passed, emptied}
+use Rattle.std.specs.declared.option.Option.the-variants.{None}
+use Rattle.protocol.specs.Words.{Names}
+use Rattle.protocol.specs.State.{State, Phase}
 use Rattle.laws.specs.Numbers.{slot-number, place-number}
 
 pub record Mine : Type 0 where

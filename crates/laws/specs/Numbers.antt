@@ -1,7 +1,7 @@
 -- How the slots, the places and the spots of a table are numbered in one row each. A table has at most 8 stations with
 -- 8 slots and 64 places each, 16 roots, and 128 records with 4 links each; what a table does not have is none for ever.
 use Prim.Native.Nat.{ℕ, _+_, _-_, _*_, _/_, _%_, _<_, _≤_}
-use mathlib.Core.Path.{_≡_, refl, sym, _∙_}
+use mathlib.Core.Path.{_≡_, sym, _∙_}
 use mathlib.Core.Bool.{cond}
 use mathlib.Core.Logic.{_⊎_, inl, inr}
 use native.Mathlib.Omega.{arith}
@@ -9,7 +9,6 @@ use lib.Dec.{ltb}
 use Rattle.std.proofs.shelf.Tests.{cases-lt, cond-true, cond-false, lt-ltb, le-ltb}
 use Rattle.std.specs.declared.option.Option.{Option}
 use Rattle.std.specs.declared.option.Option.the-variants.{Some, None}
-use Rattle.terms.specs.declared.Record.{Record}
 use Rattle.terms.specs.declared.Spot.{Spot}
 use Rattle.terms.specs.declared.Spot.the-variants as at
 use Rattle.protocol.specs.Shape.{Shape}

@@ -1,9 +1,8 @@
 -- What a station has of its own at each decision, once it owes nothing.
-use Prim.Native.Nat.{ℕ, _+_, _<_, _≤_}
+use Prim.Native.Nat.{ℕ, _+_, _<_}
 use mathlib.Core.Path.{_≡_}
-use mathlib.Core.Bool.{true, false}
-use mathlib.Core.Logic.{_⊎_}
-use mathlib.Core.List.{List, []}
+use mathlib.Core.Bool.{true}
+use mathlib.Core.List.{[]}
 use lib.ListN.{length}
 use Rattle.std.specs.declared.option.Option.{Option}
 use Rattle.std.specs.declared.option.Option.the-variants.{Some, None}
@@ -13,7 +12,6 @@ use Rattle.terms.specs.declared.Place.{Place}
 use Rattle.terms.specs.declared.Position.{Position}
 use Rattle.terms.specs.declared.Spot.{Spot}
 use Rattle.terms.specs.declared.Spot.the-variants as at
-use Rattle.work.specs.declared.work.Reached.{Reached}
 use Rattle.work.specs.declared.work.Round.{Round}
 use Rattle.work.specs.declared.work.Round.the-variants.{Own, All}
 use Rattle.work.specs.declared.work.Clean.{Clean}

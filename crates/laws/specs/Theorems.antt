@@ -3,9 +3,9 @@ use Prim.Native.Nat.{ℕ, _<_, _≤_}
 use mathlib.Core.Path.{_≡_}
 use mathlib.Core.Bool.{true}
 use mathlib.Core.Logic.{_⊎_}
-use mathlib.Core.List.{List, []}
+use mathlib.Core.List.{[]}
 use lib.ListN.{length}
-use lib.IntN.{ℤ, pos, negℤ}
+use lib.IntN.{pos, negℤ}
 use lib.Signed.{_≤ℤ_}
 use Rattle.std.specs.declared.option.Option.{Option}
 use Rattle.std.specs.declared.option.Option.the-variants.{Some, None}
@@ -23,7 +23,7 @@ use Rattle.machine.specs.Tables.{Sizes, Table, new-table}
 use Rattle.machine.specs.Steps.{turned}
 use Rattle.machine.specs.Begin.{begin-refusal, begun, place-free}
 use Rattle.laws.specs.Lists.{node-of}
-use Rattle.laws.specs.Fits.{Lawful, Sound}
+use Rattle.laws.specs.Fits.{Lawful, Sound, Follows}
 
 -- What the pool picks lies in it.
 abbrev pub FromPool : Table → Option ℕ → Type 0
@@ -33,13 +33,14 @@ FromPool t pick = (r : ℕ) → pick ≡ Some r → t .pool r ≡ true
 abbrev pub NewIsSound : Type 0
 NewIsSound = (z : Sizes) → Lawful z → Sound (new-table z)
 
--- A turn of a busy station keeps the table sound, whatever record of the pool is picked.
+-- A turn of a busy station is made of moves that the protocol allows, whatever record of the pool is picked, and keeps
+-- the table sound.
 abbrev pub TurnsKeep : Type 0
-TurnsKeep = (t : Table) → Sound t → (p : ℕ) → p < t .sizes .stations → (w : Plan) → t .seats p .work ≡ Some w → (pick : Option ℕ) → FromPool t pick → Sound (turned t pick p w)
+TurnsKeep = (t : Table) (k : Sound t) → (p : ℕ) → p < t .sizes .stations → (w : Plan) → t .seats p .work ≡ Some w → (pick : Option ℕ) → FromPool t pick → Follows t k p (turned t pick p w)
 
--- A beginning that is not refused keeps it sound.
+-- So does a beginning that is not refused.
 abbrev pub BeginningsKeep : Type 0
-BeginningsKeep = (t : Table) → Sound t → (p : ℕ) (o : Operation) → begin-refusal t p o ≡ None → Sound (begun t p o)
+BeginningsKeep = (t : Table) (k : Sound t) → (p : ℕ) (o : Operation) → begin-refusal t p o ≡ None → Follows t k p (begun t p o)
 
 -- What stations may lead to from a new table, in any order.
 pub data Run (z : Sizes) : Table → Type 0 where
@@ -118,3 +119,11 @@ TouchesLive = (t : Table) → Sound t → (p : ℕ) → p < t .sizes .stations �
 -- An idle station has an empty place in its list, so no DELETE is refused for want of one.
 abbrev pub IdleHasPlace : Type 0
 IdleHasPlace = (t : Table) → Sound t → (p : ℕ) → p < t .sizes .stations → t .seats p .work ≡ None → place-free t p ≡ true
+
+-- A record of the table lies in the pool just where it is pooled.
+pub record PoolTold (t : Table) : Type 0 where
+  pub pooled : (r : ℕ) → t .pool r ≡ true → t .standing r ≡ Pooled
+  pub complete : (r : ℕ) → r < t .sizes .records → t .standing r ≡ Pooled → t .pool r ≡ true
+
+abbrev pub SoundPool : Type 0
+SoundPool = (t : Table) → Sound t → PoolTold t

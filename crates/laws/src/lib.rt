@@ -2,19 +2,19 @@
 // invariant holds of the whole table, whatever the stations do. There is no code here: each function's contract is a
 // theorem, stated in specs/.
 
-ghost use Rattle.laws.specs.Theorems.{NewIsSound, TurnsKeep, BeginningsKeep, RunsAreSound, SoundIsBounded, SoundIsSafe, SoundHolds, SoundLists, CleanHasRoom};
+ghost use Rattle.laws.specs.Theorems.{NewIsSound, TurnsKeep, BeginningsKeep, RunsAreSound, SoundIsBounded, SoundIsSafe, SoundHolds, SoundLists, CleanHasRoom, TouchesLive, IdleHasPlace, SoundPool};
 
 // A new table is sound.
 pub fn new_tables_are_sound() -> ()
     ensures { λ _. ⌜ NewIsSound ⌝ }
 {}
 
-// A turn of a busy station keeps the table sound, whatever record of the pool is picked.
+// A turn of a busy station is made of moves that the protocol allows, and keeps the table sound.
 pub fn turns_keep_soundness() -> ()
     ensures { λ _. ⌜ TurnsKeep ⌝ }
 {}
 
-// A beginning that is not refused keeps it sound.
+// So does a beginning that is not refused.
 pub fn beginnings_keep_soundness() -> ()
     ensures { λ _. ⌜ BeginningsKeep ⌝ }
 {}
@@ -47,4 +47,19 @@ pub fn listed_is_retired() -> ()
 // Where CLEAN looks at a link, two slots of its station are empty.
 pub fn clean_has_two_slots() -> ()
     ensures { λ _. ⌜ CleanHasRoom ⌝ }
+{}
+
+// A record that an access touches or gives back is not pooled.
+pub fn touched_is_not_pooled() -> ()
+    ensures { λ _. ⌜ TouchesLive ⌝ }
+{}
+
+// An idle station has an empty place in its list, so no DELETE is refused for want of one.
+pub fn idle_has_a_place() -> ()
+    ensures { λ _. ⌜ IdleHasPlace ⌝ }
+{}
+
+// A record of the table lies in the pool just where it is pooled.
+pub fn pool_is_what_is_pooled() -> ()
+    ensures { λ _. ⌜ SoundPool ⌝ }
 {}

@@ -9,7 +9,11 @@ pub fn word<T: Copy>(words: &[T], i: u8, default: T) -> T
     ensures { λ r. ⌜ r ≡ reads default (now (words .entry)) i ⌝ }
 {
     let at = i as usize;
-    if at < words.len() { words[at] } else { default }
+    if at < words.len() {
+        words[at]
+    } else {
+        default
+    }
 }
 
 pub fn set_word<T: Drop>(words: &mut [T], i: u8, v: T)
