@@ -1,4 +1,6 @@
 // Cards in words, and what is wrong with bytes that should be a card.
+#![tactic(auto)]
+
 mod explain;
 mod faults;
 mod quantities;

@@ -1,4 +1,6 @@
 // Cards: what a record carries. A slip is an order, a recipe is what to pour.
+#![tactic(auto)]
+
 mod card;
 mod card_bytes;
 mod fault;

@@ -1,4 +1,6 @@
 // Cards at their limits.
+#![tactic(auto)]
+
 #[cfg(test)]
 mod tests {
     use card_words::{recipe_in_words, slip_in_words};

@@ -1,4 +1,6 @@
 // Reads a log of frames, and says line by line what it asks or why it is refused.
+#![tactic(auto)]
+
 use log_words::{Log, explained};
 use std::io;
 use std::io::{BufRead, BufReader};

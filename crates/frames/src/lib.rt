@@ -1,4 +1,6 @@
 // Lines of hexadecimal digits, the frames that they ask, the answers that are given, and the refusals with their numbers.
+#![tactic(auto)]
+
 pub mod answer;
 pub mod answer_bytes;
 pub mod frame;

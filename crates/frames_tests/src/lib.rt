@@ -1,4 +1,5 @@
 // Examples of lines, frames and answers at every limit.
+#![tactic(auto)]
 
 #[cfg(test)]
 mod tests {

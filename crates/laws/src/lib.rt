@@ -1,6 +1,7 @@
 // Every access of every operation is a step of the protocol whose invariant keeps withdrawn records safe: so that
 // invariant holds of the whole table, whatever the stations do. There is no code here: each function's contract is a
 // theorem, stated in specs/.
+#![tactic(auto)]
 
 ghost use Rattle.laws.specs.Theorems.{NewIsSound, TurnsKeep, BeginningsKeep, RunsAreSound, SoundIsBounded, SoundIsSafe, SoundHolds, SoundLists, CleanHasRoom, TouchesLive, IdleHasPlace, SoundPool};
 

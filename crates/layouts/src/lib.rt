@@ -1,4 +1,6 @@
 // Layouts of links: how many positions a record has, and which position follows each.
+#![tactic(auto)]
+
 pub mod book;
 pub mod chain;
 pub mod follow;

@@ -1,5 +1,6 @@
 // The ledger of whole acts, and theorems about it: each function's contract is one of them.
 // The definitions are in specs/: Ledger says what an act does and when it is allowed, and Explains what explains a run.
+#![tactic(auto)]
 
 ghost use Rattle.ledger.specs.Limits.{NewFindsWhatIsPooled, DerefFindsWhatIsNamed, LinksNeedHolds, ReleaseHasLimits};
 ghost use Rattle.ledger.specs.Limits.{CasHasLimits, StoreHasLimits, DeleteHasLimits, LeadHasLimits, ReturnHasLimits, ActsAreSettled};

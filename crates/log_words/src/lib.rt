@@ -1,4 +1,6 @@
 // Whole lines of a log in plain words.
+#![tactic(auto)]
+
 pub mod log;
 pub mod log_lines;
 mod remarks;

@@ -1,5 +1,7 @@
 // The table as one state, a turn of a station, and the beginnings that are refused: see specs/. What stands here are facts
 // about these definitions, each as the contract of a function.
+#![tactic(auto)]
+
 ghost use Rattle.machine.specs.Solo.{DerefTakesThree, SwapOfNoneTakesOne, StoreTakes};
 
 // A dereference of a spot that nobody changes takes 3 accesses.

@@ -1,4 +1,6 @@
 // Pools of record numbers: what one is, a stack and a ring, and what holds of any.
+#![tactic(auto)]
+
 pub mod issued;
 pub mod laws;
 mod members;

@@ -1,6 +1,7 @@
 // Why a withdrawn record is never touched while it lies in the pool: an invariant over the words that the
 // stations share, which every access of every station keeps, for any numbers of stations, records, slots,
 // links and list places. There is no code here: each function's contract is a theorem, stated in specs/.
+#![tactic(auto)]
 
 ghost use Rattle.protocol.specs.Theorems.{Kept, Starts, Always, Bounded, AllSafe, TouchesLive, FreshAlone, ListedOnce, MarkedRetired, Changes, Rises, Rely, OthersUntouched, TurnsKeep, Cycle};
 

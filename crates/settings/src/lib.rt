@@ -1,4 +1,6 @@
 // The settings of a table, made from the bytes of a SETUP line.
+#![tactic(auto)]
+
 pub mod bytes;
 pub mod choices;
 pub mod limits;

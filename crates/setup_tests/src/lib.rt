@@ -1,4 +1,6 @@
 // Tests of the settings at their limits, of the pools against a list, and of the layouts.
+#![tactic(auto)]
+
 #[cfg(test)]
 mod limits;
 #[cfg(test)]

@@ -1,5 +1,7 @@
 // The words of the subject as types. Each number is a type of its own, so that a slot
 // cannot stand where a place is meant.
+#![tactic(auto)]
+
 pub mod names;
 pub mod tables;
 

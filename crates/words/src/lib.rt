@@ -1,4 +1,6 @@
 // Frames, refusals and whole lines in plain words.
+#![tactic(auto)]
+
 pub mod frame_words;
 pub mod refusal_words;
 pub mod totals;

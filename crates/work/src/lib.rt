@@ -1,4 +1,6 @@
 // What a station is in the middle of: the one access that it makes next, and the private work after it.
+#![tactic(auto)]
+
 pub mod access;
 pub mod advance;
 pub mod begin;
