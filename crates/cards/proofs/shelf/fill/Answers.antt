@@ -4,6 +4,6 @@ use Rattle.cards.proofs.shelf.fill.Goals as goal
 
 pub returns : goal.returns
 returns g c =
-    let read = sym c.in-ok-card.ensures.value in
-    let same = g.met.C.Card.lawful.round c.args.bytes.now c.in-ok-card.card (bytes_fit c.args.bytes.now c.type-inv.bytes) read in
-    record { fills = (omega arith, (c.in-ok-card.card, read, same, search rules)) }
+    let read = sym c.in_ok-card.ensures.value in
+    let same = g.met.C.Card.lawful.round c.args.bytes.now c.in_ok-card.card (bytes_fit c.args.bytes.now c.type_inv.bytes) read in
+    record { fills = (omega arith, (c.in_ok-card.card, read, same, search rules)) }

@@ -6,4 +6,4 @@ use Rattle.frames.proofs.frame_bytes.frame_of.Goals as goal
 
 pub returns-in-len2-up : goal.returns-in-len2-up
 returns-in-len2-up c =
-    subst (λ o. SortsAs o c.of-station.result) (sym (station_is c.args.bytes.now (search rules) (search rules))) c.of-station.ensures
+    subst (λ o. SortsAs o c.of_station.result) (sym (station_is c.args.bytes.now (search rules) (search rules))) c.of_station.ensures

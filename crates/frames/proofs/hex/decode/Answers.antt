@@ -6,8 +6,8 @@ use Rattle.frames.specs.Hexadecimal.{bytes_of_pairs}
 use Rattle.frames.proofs.Decoding.{onto_nothing, turn}
 use Rattle.frames.proofs.hex.decode.Goals as goal
 
-pub returns-then-line-gt-MOST-DIGITS : goal.returns-then-line-gt-MOST-DIGITS
-returns-then-line-gt-MOST-DIGITS c = cond-false _ _ _ (lt-leb _ _ c.if-line-gt-MOST-DIGITS.true)
+pub returns-then-line-gt-MOST_DIGITS : goal.returns-then-line-gt-MOST_DIGITS
+returns-then-line-gt-MOST_DIGITS c = cond-false _ _ _ (lt-leb _ _ c.if-line-gt-MOST_DIGITS.true)
 
 pub loop-rest-init : goal.loop-rest-init
 loop-rest-init c = (onto_nothing (bytes_of_pairs c.args.line.now), zero-add _, refl)

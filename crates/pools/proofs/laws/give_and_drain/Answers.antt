@@ -9,7 +9,7 @@ returns g c =
     let s = g.P.Pool.has c.args.pool.now in
     let size = g.P.Pool.size c.args.pool.now in
     let node = c.args.node in
-    let l = c.in-ok-give.ensures.answer in
+    let l = c.in_ok-give.ensures.answer in
     let all = c.drain.ensures.all ∙ c.give.ensures.after ∙ cond-true (ltb node size) (adding node s) s (lt-ltb node size l) in
     record {
       again = (l, ap (λ (t : ℕ → Bool). t node) all ∙ or_left _ (s node) (eq-eqb node node refl), c.drain.ensures.once, all, c.drain.ensures.empty);

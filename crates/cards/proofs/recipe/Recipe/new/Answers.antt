@@ -2,8 +2,8 @@ use Rattle.std.proofs.Common.{sym, arith, rules}
 use Rattle.cards.specs.RecipeLaws.{fine_more, fine_over, recipe_fine}
 use Rattle.cards.proofs.recipe.Recipe.new.Goals as goal
 
-pub returns-then-amounts-i-gt-MOST-AMOUNT : goal.returns-then-amounts-i-gt-MOST-AMOUNT
-returns-then-amounts-i-gt-MOST-AMOUNT c = record {
+pub returns-then-amounts-i-gt-MOST_AMOUNT : goal.returns-then-amounts-i-gt-MOST_AMOUNT
+returns-then-amounts-i-gt-MOST_AMOUNT c = record {
   value = sym (fine_over c.args.amounts c.loop-i.i (omega arith) (search rules) (omega arith) c.loop-i.invariant);
 }
 

@@ -14,12 +14,12 @@ pub loop-x-init : goal.loop-x-init
 loop-x-init g c = ((λ j h. absurd (omega arith)), (λ j h. blank j), refl)
 
 -- the value that is written
-follows-x : (g : Over) (c : goal.After-unwrap-or g) → c.unwrap-or.result ≡ g.L.Layout.follow c.loop-x.x
+follows-x : (g : Over) (c : goal.After-unwrap_or g) → c.unwrap_or.result ≡ g.L.Layout.follow c.loop-x.x
 follows-x g c =
     let x = c.loop-x.x in
     let l : x < g.L.Layout.positions = omega (arith, c.positions-positions.ensures.value) in
     let e : following_of g.L.Layout.positions g.L.Layout.follow x ≡ Some (g.L.Layout.follow x) = cond-true (ltb x g.L.Layout.positions) _ _ (lt-ltb x g.L.Layout.positions l) in
-    c.unwrap-or.ensures ∙ ap (λ o. unwrap_or o 0) (c.follow.ensures.value ∙ e)
+    c.unwrap_or.ensures ∙ ap (λ o. unwrap_or o 0) (c.follow.ensures.value ∙ e)
 
 pub loop-x-preserved : goal.loop-x-preserved
 loop-x-preserved g c =
@@ -27,23 +27,19 @@ loop-x-preserved g c =
     let next = c.loop-x.next in
     let in' : x < length next = omega (arith, c.positions-positions.ensures.value, g.met.L.Layout.few, c.loop-x.invariant.2) in (
       (λ j h. ap (λ v. get_or (set next x v) j 0) (follows-x g c) ∙ fill_by_more g.L.Layout.follow next x 0 in' c.loop-x.invariant.0 j h),
-      (λ j h. get_or-set_other next x j c.unwrap-or.result 0 (λ e. omega arith) ∙ c.loop-x.invariant.1 j (omega arith)),
-      length-set next x c.unwrap-or.result ∙ c.loop-x.invariant.2,
+      (λ j h. get_or-set_other next x j c.unwrap_or.result 0 (λ e. omega arith) ∙ c.loop-x.invariant.1 j (omega arith)),
+      length-set next x c.unwrap_or.result ∙ c.loop-x.invariant.2,
     )
 
-pub invariant-of-result : goal.invariant-of-result
-invariant-of-result g c =
+pub invariant_of-result : goal.invariant_of-result
+invariant_of-result g c =
     let p = c.positions-positions.result in
-    let e = c.positions-positions.ensures.value in (
-      omega (arith, e, g.met.L.Layout.some),
-      (
-        omega (arith, e, g.met.L.Layout.few),
-        (
-          (λ x l. let h : x < g.L.Layout.positions = omega (arith, e) in omega (arith, e, c.loop-x.invariant.0 x (omega arith), g.met.L.Layout.inside x h)),
-          tt,
-        ),
-      ),
-    )
+    let e = c.positions-positions.ensures.value in
+    record {
+      some = omega (arith, e, g.met.L.Layout.some);
+      few = omega (arith, e, g.met.L.Layout.few);
+      inside = λ x l. let h : x < g.L.Layout.positions = omega (arith, e) in omega (arith, e, c.loop-x.invariant.0 x (omega arith), g.met.L.Layout.inside x h);
+    }
 
 pub returns : goal.returns
 returns g c =

@@ -13,20 +13,20 @@ limits v value low high h =
 last : (v value w high : ℕ) → (within value 1 high ≡ true) × (v ≡ value) → w ≡ high → (1 ≤ v) × (v ≤ w)
 last v value w high h e = subst (λ n. (1 ≤ v) × (v ≤ n)) (sym e) (limits v value 1 high h)
 
-pub invariant-of-result : goal.invariant-of-result
-invariant-of-result c =
+pub invariant_of-result : goal.invariant_of-result
+invariant_of-result c =
     let line = c.args.line.now in (
-      limits _ line.stations 1 8 c.in-ok-checked.ensures,
+      limits _ line.stations 1 8 c.in_ok-checked.ensures,
       (
-        limits _ line.slots 2 8 c.in-ok-checked-2.ensures,
+        limits _ line.slots 2 8 c.in_ok-checked-2.ensures,
         (
-          limits _ line.records 1 128 c.in-ok-checked-3.ensures,
+          limits _ line.records 1 128 c.in_ok-checked-3.ensures,
           (
-            limits _ line.roots 1 16 c.in-ok-checked-4.ensures,
+            limits _ line.roots 1 16 c.in_ok-checked-4.ensures,
             (
-              limits _ line.t1 1 64 c.in-ok-checked-5.ensures,
+              limits _ line.t1 1 64 c.in_ok-checked-5.ensures,
               (
-                last _ line.t2 _ line.t1 c.in-ok-checked-6.ensures c.in-ok-checked-5.ensures.1,
+                last _ line.t2 _ line.t1 c.in_ok-checked-6.ensures c.in_ok-checked-5.ensures.1,
                 tt,
               ),
             ),

@@ -5,7 +5,7 @@ use Rattle.cards.proofs.recipe.kind.RecipeCard.read.Goals as goal
 
 pub loop-i-preserved : goal.loop-i-preserved
 loop-i-preserved c =
-    (search rules, read_more c.args.bytes.now c.loop-i.amounts c.loop-i.i c.from-be-bytes.result (omega arith) (omega arith) (omega arith) c.from-be-bytes.ensures c.loop-i.invariant.1)
+    (search rules, read_more c.args.bytes.now c.loop-i.amounts c.loop-i.i c.from_be_bytes.result (omega arith) (omega arith) (omega arith) c.from_be_bytes.ensures c.loop-i.invariant.1)
 
 pub returns : goal.returns
 returns c = record {

@@ -11,7 +11,7 @@ loop-i-preserved c =
     let vs = c.args.self.now.amounts in
     let rest = written (drop (i + 1) recipe_fields) (drop (i + 1) vs) in (
       search rules,
-      subst (λ l. take (2 * (i + 1)) (set (set c.loop-i.bytes (2 * i) (get_or l 0 0)) (2 * i + 1) (get_or l 1 0)) ++ rest ≡ written recipe_fields vs) (sym c.to-be-bytes.ensures)
+      subst (λ l. take (2 * (i + 1)) (set (set c.loop-i.bytes (2 * i) (get_or l 0 0)) (2 * i + 1) (get_or l 1 0)) ++ rest ≡ written recipe_fields vs) (sym c.to_be_bytes.ensures)
           (write_more vs c.loop-i.bytes i (omega arith) (search rules) c.loop-i.invariant.0 c.loop-i.invariant.1),
     )
 

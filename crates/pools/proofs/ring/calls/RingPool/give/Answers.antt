@@ -20,11 +20,11 @@ module _ (s : Ring) (node : ℕ) (l : node < s.size) (f : get_or s.members node 
   put : put_last (queued s.items s.head s.len) node ≡ queued s.items s.head s.len ++ node ∷ []
   put = cond-false (listed (queued s.items s.head s.len) node) _ _ (sym (s.kept.1 node) ∙ f)
 
-pub overflow-add-self : goal.overflow-add-self
-overflow-add-self c = let h = fits c.args.self.now c.args.node c.if-node-self.false c.if-not-self-node.true in search rules
+pub overflow_add-self : goal.overflow_add-self
+overflow_add-self c = let h = fits c.args.self.now c.args.node c.if-node-self.false c.if-not-self-node.true in search rules
 
-pub overflow-add-self-then-not-self-node : goal.overflow-add-self-then-not-self-node
-overflow-add-self-then-not-self-node c = let h = fits c.args.self.now c.args.node c.if-node-self.false c.if-not-self-node.true in search rules
+pub overflow_add-self-then-not-self-node : goal.overflow_add-self-then-not-self-node
+overflow_add-self-then-not-self-node c = let h = fits c.args.self.now c.args.node c.if-node-self.false c.if-not-self-node.true in search rules
 
 pub bounds-self-place : goal.bounds-self-place
 bounds-self-place c =
@@ -32,8 +32,8 @@ bounds-self-place c =
     let h = fits s c.args.node c.if-node-self.false c.if-not-self-node.true in
     subst (λ place. place < 128) (sym c.wrap-place.ensures) (wrapped_in (s.head + s.len) (omega (arith, h, s.within)))
 
-pub invariant-of-self : goal.invariant-of-self
-invariant-of-self c =
+pub invariant_of-self : goal.invariant_of-self
+invariant_of-self c =
     let s = c.args.self.now in
     let long : length s.items ≡ 128 = omega arith in
     (pushed s c.args.node c.if-node-self.false c.if-not-self-node.true c.wrap-place.result c.wrap-place.ensures long, (s.within, tt))

@@ -22,9 +22,9 @@ issues : (c : After-loop-k) → queued c.loop-k.items 0 c.args.settings.now.reco
 issues c =
     queued_new c.loop-k.items 0 c.args.settings.now.records (omega (arith, c.args.settings.now.recordsIn)) (λ j h. c.loop-k.invariant.0 j (omega arith))
 
-pub invariant-of-result : goal.invariant-of-result
-invariant-of-result c =
-    (kept_new _ c.first-members.result c.args.settings.now.records (issues (goal.at.invariant-of-result c).After-loop-k) c.first-members.ensures.marks c.args.settings.now.recordsIn.1 c.first-members.ensures.len, (omega arith, tt))
+pub invariant_of-result : goal.invariant_of-result
+invariant_of-result c =
+    (kept_new _ c.first-members.result c.args.settings.now.records (issues (goal.at.invariant_of-result c).After-loop-k) c.first-members.ensures.marks c.args.settings.now.recordsIn.1 c.first-members.ensures.len, (omega arith, tt))
 
 pub returns : goal.returns
 returns c =

@@ -21,8 +21,8 @@ module _ (s : Ring) (ne : s.len ≡ 0 → ⊥) (next : ℕ) (e : next ≡ wrappe
 pub bounds-self-node : goal.bounds-self-node
 bounds-self-node c = head_in c.args.self.now c.if-self-eq0.false c.wrap-self.result c.wrap-self.ensures
 
-pub invariant-of-self : goal.invariant-of-self
-invariant-of-self c =
+pub invariant_of-self : goal.invariant_of-self
+invariant_of-self c =
     let s = c.args.self.now in
     let next : c.wrap-self.result < 128 = subst (λ place. place < 128) (sym c.wrap-self.ensures) (wrapped_in (s.head + 1) (omega (arith, s.within))) in
     (kept_rest _ _ _ _ (topped s c.if-self-eq0.false c.wrap-self.result c.wrap-self.ensures), (next, tt))

@@ -20,11 +20,11 @@ module _ (s : Stack) (node : ℕ) (l : node < s.size) (f : get_or s.members node
 pub bounds-self-self : goal.bounds-self-self
 bounds-self-self c = fits c.args.self.now c.args.node c.if-node-self.false c.if-not-self-node.true
 
-pub overflow-add-self : goal.overflow-add-self
-overflow-add-self c = let h = fits c.args.self.now c.args.node c.if-node-self.false c.if-not-self-node.true in search rules
+pub overflow_add-self : goal.overflow_add-self
+overflow_add-self c = let h = fits c.args.self.now c.args.node c.if-node-self.false c.if-not-self-node.true in search rules
 
-pub invariant-of-self : goal.invariant-of-self
-invariant-of-self c =
+pub invariant_of-self : goal.invariant_of-self
+invariant_of-self c =
     let s = c.args.self.now in
     let node = c.args.node in
     let l = c.if-node-self.false in

@@ -25,9 +25,9 @@ issues c =
     let z : m - m ≡ 0 = omega arith in
     stacked_new c.loop-k.items m m (omega arith) (λ j h. c.loop-k.invariant.0 j (omega arith)) ∙ ap (λ a. range_with_len a m) z
 
-pub invariant-of-result : goal.invariant-of-result
-invariant-of-result c =
-    (kept_new _ c.first-members.result c.args.settings.now.records (issues (goal.at.invariant-of-result c).After-loop-k) c.first-members.ensures.marks c.args.settings.now.recordsIn.1 c.first-members.ensures.len, tt)
+pub invariant_of-result : goal.invariant_of-result
+invariant_of-result c =
+    (kept_new _ c.first-members.result c.args.settings.now.records (issues (goal.at.invariant_of-result c).After-loop-k) c.first-members.ensures.marks c.args.settings.now.recordsIn.1 c.first-members.ensures.len, tt)
 
 pub returns : goal.returns
 returns c =

@@ -24,8 +24,8 @@ bounds-self-node c =
     let s = c.args.self.now in
     omega (arith, kept_head _ _ _ _ (topped s c.if-self-eq0.false), s.kept.3)
 
-pub invariant-of-self : goal.invariant-of-self
-invariant-of-self c =
+pub invariant_of-self : goal.invariant_of-self
+invariant_of-self c =
     let s = c.args.self.now in
     (kept_rest _ _ _ _ (topped s c.if-self-eq0.false), tt)
 
