@@ -18,6 +18,9 @@ DECLARED = re.compile(r"^ *(?:(?:abbrev|unfoldable|pub|package|data|record|rules
 # Two words that fall together get another name in one crate: there the second is the lemma about the first.
 APART = {"ledger": {f"same-{x}": f"same_{x}_is" for x in ("name", "record", "station", "position")} | {"same_spot": "same_spot_is"}}
 
+# Labels of ghost fields, which are Rust identifiers.
+LABELS = {f"{x}In": f"{x}_in" for x in ("stations", "slots", "records", "roots", "t1", "t2")}
+
 
 def files(top):
     for folder, dirs, names in os.walk(os.path.join(top, "crates")):
@@ -115,7 +118,7 @@ def main():
     for path in files(top):
         text = read(path)
         crate = os.path.relpath(path, os.path.join(top, "crates")).split(os.sep)[0]
-        after = turn(text, turned | APART.get(crate, {}), path)
+        after = turn(text, turned | LABELS | APART.get(crate, {}), path)
         if after != text:
             with open(path, "w", encoding="utf-8") as f:
                 f.write(after)

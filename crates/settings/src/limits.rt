@@ -35,10 +35,10 @@ pub struct Settings {
     pub t1: u8,
     // the length from which on a station's list is scanned
     pub t2: u8,
-    ghost stationsIn: { (1 ≤ stations) × (stations ≤ 8) },
-    ghost slotsIn: { (2 ≤ slots) × (slots ≤ 8) },
-    ghost recordsIn: { (1 ≤ records) × (records ≤ 128) },
-    ghost rootsIn: { (1 ≤ roots) × (roots ≤ 16) },
-    ghost t1In: { (1 ≤ t1) × (t1 ≤ 64) },
-    ghost t2In: { (1 ≤ t2) × (t2 ≤ t1) },
+    ghost stations_in: { (1 ≤ stations) × (stations ≤ 8) },
+    ghost slots_in: { (2 ≤ slots) × (slots ≤ 8) },
+    ghost records_in: { (1 ≤ records) × (records ≤ 128) },
+    ghost roots_in: { (1 ≤ roots) × (roots ≤ 16) },
+    ghost t1_in: { (1 ≤ t1) × (t1 ≤ 64) },
+    ghost t2_in: { (1 ≤ t2) × (t2 ≤ t1) },
 }

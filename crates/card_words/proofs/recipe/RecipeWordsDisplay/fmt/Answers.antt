@@ -12,7 +12,7 @@ loop-i-preserved g c =
           let sofar = c.loop-i.invariant plain in
           poured_is g.W.Write.write_str_gives c.args.f.now c.amounts-amounts.result w.write.new.self _ false _ (c.loop-i.i + 1) w.f-is w.first-is
           (poured_more g.W.Write.write_str_gives c.args.f.now c.amounts-amounts.result c.loop-i.f w.write.new.self c.loop-i.first c.loop-i.i inside (λ e. omega (arith, w.if-amount-gt0.true))
-          (w.in_ok-write.ensures.shows sofar.put.plain refl) sofar)
+          (w.in_ok-write.ensures.writes sofar.put.plain refl) sofar)
       | else-amount-gt0 w ↦
           λ plain.
           poured_is g.W.Write.write_str_gives c.args.f.now c.amounts-amounts.result c.loop-i.f _ c.loop-i.first _ (c.loop-i.i + 1) w.f-is w.first-is

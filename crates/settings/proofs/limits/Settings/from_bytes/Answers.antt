@@ -15,22 +15,12 @@ last v value w high h e = subst (λ n. (1 ≤ v) × (v ≤ n)) (sym e) (limits v
 
 pub invariant_of-result : goal.invariant_of-result
 invariant_of-result c =
-    let line = c.args.line.now in (
-      limits _ line.stations 1 8 c.in_ok-checked.ensures,
-      (
-        limits _ line.slots 2 8 c.in_ok-checked-2.ensures,
-        (
-          limits _ line.records 1 128 c.in_ok-checked-3.ensures,
-          (
-            limits _ line.roots 1 16 c.in_ok-checked-4.ensures,
-            (
-              limits _ line.t1 1 64 c.in_ok-checked-5.ensures,
-              (
-                last _ line.t2 _ line.t1 c.in_ok-checked-6.ensures c.in_ok-checked-5.ensures.1,
-                tt,
-              ),
-            ),
-          ),
-        ),
-      ),
-    )
+    let line = c.args.line.now in
+    record {
+      stations_in = limits _ line.stations 1 8 c.in_ok-checked.ensures;
+      slots_in = limits _ line.slots 2 8 c.in_ok-checked-2.ensures;
+      records_in = limits _ line.records 1 128 c.in_ok-checked-3.ensures;
+      roots_in = limits _ line.roots 1 16 c.in_ok-checked-4.ensures;
+      t1_in = limits _ line.t1 1 64 c.in_ok-checked-5.ensures;
+      t2_in = last _ line.t2 _ line.t1 c.in_ok-checked-6.ensures c.in_ok-checked-5.ensures.1;
+    }

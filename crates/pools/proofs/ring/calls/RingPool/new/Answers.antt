@@ -15,16 +15,16 @@ loop-k-init c = ((λ j h. absurd (omega arith)), refl)
 pub loop-k-preserved : goal.loop-k-preserved
 loop-k-preserved c =
     let k = c.loop-k.k in
-    let in' : k < length c.loop-k.items = omega (arith, c.loop-k.invariant.1, c.args.settings.now.recordsIn) in
+    let in' : k < length c.loop-k.items = omega (arith, c.loop-k.invariant.1, c.args.settings.now.records_in) in
     (fill_by_more (λ j. j) c.loop-k.items k 0 in' c.loop-k.invariant.0, length-set c.loop-k.items k k ∙ c.loop-k.invariant.1)
 
 issues : (c : After-loop-k) → queued c.loop-k.items 0 c.args.settings.now.records ≡ range_with_len 0 c.args.settings.now.records
 issues c =
-    queued_new c.loop-k.items 0 c.args.settings.now.records (omega (arith, c.args.settings.now.recordsIn)) (λ j h. c.loop-k.invariant.0 j (omega arith))
+    queued_new c.loop-k.items 0 c.args.settings.now.records (omega (arith, c.args.settings.now.records_in)) (λ j h. c.loop-k.invariant.0 j (omega arith))
 
 pub invariant_of-result : goal.invariant_of-result
 invariant_of-result c =
-    (kept_new _ c.first-members.result c.args.settings.now.records (issues (goal.at.invariant_of-result c).After-loop-k) c.first-members.ensures.marks c.args.settings.now.recordsIn.1 c.first-members.ensures.len, (omega arith, tt))
+    (kept_new _ c.first-members.result c.args.settings.now.records (issues (goal.at.invariant_of-result c).After-loop-k) c.first-members.ensures.marks c.args.settings.now.records_in.1 c.first-members.ensures.len, (omega arith, tt))
 
 pub returns : goal.returns
 returns c =

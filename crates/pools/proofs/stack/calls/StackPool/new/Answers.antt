@@ -16,7 +16,7 @@ pub loop-k-preserved : goal.loop-k-preserved
 loop-k-preserved c =
     let m = c.args.settings.now.records in
     let k = c.loop-k.k in
-    let in' : k < length c.loop-k.items = omega (arith, c.loop-k.invariant.1, c.args.settings.now.recordsIn) in
+    let in' : k < length c.loop-k.items = omega (arith, c.loop-k.invariant.1, c.args.settings.now.records_in) in
     (fill_by_more (λ j. m - 1 - j) c.loop-k.items k 0 in' c.loop-k.invariant.0, length-set c.loop-k.items k (m - 1 - k) ∙ c.loop-k.invariant.1)
 
 issues : (c : After-loop-k) → stacked c.loop-k.items c.args.settings.now.records ≡ range_with_len 0 c.args.settings.now.records
@@ -27,7 +27,7 @@ issues c =
 
 pub invariant_of-result : goal.invariant_of-result
 invariant_of-result c =
-    (kept_new _ c.first-members.result c.args.settings.now.records (issues (goal.at.invariant_of-result c).After-loop-k) c.first-members.ensures.marks c.args.settings.now.recordsIn.1 c.first-members.ensures.len, tt)
+    (kept_new _ c.first-members.result c.args.settings.now.records (issues (goal.at.invariant_of-result c).After-loop-k) c.first-members.ensures.marks c.args.settings.now.records_in.1 c.first-members.ensures.len, tt)
 
 pub returns : goal.returns
 returns c =
