@@ -42,10 +42,10 @@ loop-node-preserved g c =
 
 pub returns : goal.returns
 returns g c =
-    let none : (x : ℕ) → g.P.Pool.has c.loop-node.pool x ≡ false = λ x. g.met.P.Pool.empty c.loop-node.pool x (sym c.in-default.ensures.value) in
+    let none : (x : ℕ) → g.P.Pool.has c.loop-node.pool x ≡ false = λ x. g.met.P.Pool.empty c.loop-node.pool x (sym c.in_default.ensures.value) in
     record {
       once = c.loop-node.invariant.0.0;
       all = drained_all _ (g.P.Pool.has c.loop-node.pool) _ c.loop-node.invariant.0 none;
-      empty = c.take.ensures.after ∙ ap (λ o. without o (g.P.Pool.has c.loop-node.pool)) (sym c.in-default.ensures.value) ∙ fun_ext none;
+      empty = c.take.ensures.after ∙ ap (λ o. without o (g.P.Pool.has c.loop-node.pool)) (sym c.in_default.ensures.value) ∙ fun_ext none;
       size = c.take.ensures.size ∙ c.loop-node.invariant.3;
     }

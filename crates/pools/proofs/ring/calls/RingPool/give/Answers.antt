@@ -36,7 +36,7 @@ pub invariant_of-self : goal.invariant_of-self
 invariant_of-self c =
     let s = c.args.self.now in
     let long : length s.items ≡ 128 = omega arith in
-    (pushed s c.args.node c.if-node-self.false c.if-not-self-node.true c.wrap-place.result c.wrap-place.ensures long, (s.within, tt))
+    record { kept = pushed s c.args.node c.if-node-self.false c.if-not-self-node.true c.wrap-place.result c.wrap-place.ensures long; within = s.within }
 
 pub returns-then-not-self-node : goal.returns-then-not-self-node
 returns-then-not-self-node c =

@@ -24,8 +24,11 @@ issues c =
 
 pub invariant_of-result : goal.invariant_of-result
 invariant_of-result c =
-    (kept_new _ c.first-members.result c.args.settings.now.records (issues (goal.at.invariant_of-result c).After-loop-k) c.first-members.ensures.marks c.args.settings.now.records_in.1 c.first-members.ensures.len, (omega arith, tt))
+    record {
+      kept = kept_new _ c.first_members.result c.args.settings.now.records (issues (goal.at.invariant_of-result c).After-loop-k) c.first_members.ensures.marks c.args.settings.now.records_in.1 c.first_members.ensures.len;
+      within = omega arith;
+    }
 
 pub returns : goal.returns
 returns c =
-    record { full = fun_ext c.first-members.ensures.marks; size = refl; order = issues (goal.at.returns c).After-loop-k }
+    record { full = fun_ext c.first_members.ensures.marks; size = refl; order = issues (goal.at.returns c).After-loop-k }

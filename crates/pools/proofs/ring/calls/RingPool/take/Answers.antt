@@ -25,7 +25,7 @@ pub invariant_of-self : goal.invariant_of-self
 invariant_of-self c =
     let s = c.args.self.now in
     let next : c.wrap-self.result < 128 = subst (λ place. place < 128) (sym c.wrap-self.ensures) (wrapped_in (s.head + 1) (omega (arith, s.within))) in
-    (kept_rest _ _ _ _ (topped s c.if-self-eq0.false c.wrap-self.result c.wrap-self.ensures), (next, tt))
+    record { kept = kept_rest _ _ _ _ (topped s c.if-self-eq0.false c.wrap-self.result c.wrap-self.ensures); within = next }
 
 pub returns : goal.returns
 returns c =

@@ -30,7 +30,7 @@ invariant_of-self c =
     let l = c.if-node-self.false in
     let f = c.if-not-self-node.true in
     let in' : s.len < length s.items = omega (arith, fits s node l f) in
-    (pushed s node l f in', tt)
+    record { kept = pushed s node l f in' }
 
 pub returns-then-not-self-node : goal.returns-then-not-self-node
 returns-then-not-self-node c =

@@ -27,7 +27,7 @@ bounds-self-node c =
 pub invariant_of-self : goal.invariant_of-self
 invariant_of-self c =
     let s = c.args.self.now in
-    (kept_rest _ _ _ _ (topped s c.if-self-eq0.false), tt)
+    record { kept = kept_rest _ _ _ _ (topped s c.if-self-eq0.false) }
 
 pub returns : goal.returns
 returns c =
