@@ -12,8 +12,12 @@ use Rattle.terms.proofs.Puts.{put_tells}
 use Rattle.memory.specs.Shared.{Shared, name_at}
 use Rattle.work.specs.Plans.{Plan, Notes, Going, plan}
 use Rattle.memory.specs.declared.access.Write.{Write}
+use Rattle.memory.specs.declared.access.WordAccess.{WordAccess}
+use Rattle.memory.specs.Perform.{after_of}
+use Rattle.terms.specs.declared.Slot.{Slot}
+use Rattle.work.specs.declared.work.AfterLook.TheVariants as look
 use Rattle.work.specs.declared.work.AfterStore.TheVariants as store
-use Rattle.work.specs.declared.work.Point.TheVariants.{End, Overwrite}
+use Rattle.work.specs.declared.work.Point.TheVariants.{End, Look, LookAgain, Verify, Overwrite}
 use Rattle.work.specs.Steps.{settle}
 use Rattle.machine.specs.Tables.{Sizes, Seat, Table}
 use Rattle.machine.specs.Steps.{turned, turn_answer, answer_after, seated}
@@ -32,18 +36,29 @@ same_self None = refl
 same_self (Some r) = eq-eqb r.number r.number refl
 
 -- D5 finds the name that D3 found
-verified_ends : (v : Option Record) (other : Plan) → answer_after (settle (cond (same_name v v) (plan [] (End (Outcome.Found v))) other)) ≡ Some (Outcome.Found v)
-verified_ends v other = ap (λ (b : Bool). answer_after (settle (cond b (plan [] (End (Outcome.Found v))) other))) (same_self v)
+verified_ends : (v found : Option Record) (other : Plan) → found ≡ v →
+    answer_after (settle (cond (same_name found v) (plan [] (End (Outcome.Found v))) other)) ≡ Some (Outcome.Found v)
+verified_ends v found other e =
+    ap (λ (b : Bool). answer_after (settle (cond b (plan [] (End (Outcome.Found v))) other))) (ap (λ (u : Option Record). same_name u v) e ∙ same_self v)
+
+verify_last : (p : ℕ) (t : Table) (q : Spot) (i : Slot) (v : Option Record) → (t.seats p).work ≡ Some (plan [] (Verify q i v look.Answer)) →
+    name_at t.shared q ≡ v → Takes p t 1 (Outcome.Found v)
+verify_last p t q i v e named = last t _ _ e (λ c. verified_ends v (name_at t.shared q) (plan [] (LookAgain q i look.Answer)) named)
+
+-- D4 writes a slot, and no spot
+fill_keeps : (s : Shared) (p : ℕ) (i : Slot) (v : Option Record) (q : Spot) → name_at (after_of s p (WordAccess.Change (Write.FillSlot i v))) q ≡ name_at s q
+fill_keeps s p i v (at.Root g) = refl
+fill_keeps s p i v (at.Link r x) = refl
+
+fill_more : (p : ℕ) → p < 8 → (t : Table) (q : Spot) (i : Slot) (v : Option Record) →
+    (t.seats p).work ≡ Some (plan (Write.FillSlot i v ∷ []) (Verify q i v look.Answer)) → name_at t.shared q ≡ v → Takes p t 2 (Outcome.Found v)
+fill_more p h t q i v e named = more t _ 1 _ e (λ b. refl) (λ b. verify_last p _ q i v (seat_here _ p _ _ h) (fill_keeps t.shared p i v q ∙ named))
+
+look_more : (p : ℕ) → p < 8 → (t : Table) (q : Spot) → (t.seats p).work ≡ Some (plan [] (Look q look.Answer)) → Takes p t 3 (Outcome.Found (name_at t.shared q))
+look_more p h t q e = more t _ 2 _ e (λ a. refl) (λ a. fill_more p h _ q _ (name_at t.shared q) (seat_here _ p _ _ h) refl)
 
 pub deref_three : (t : Table) (p : ℕ) (q : Spot) → p < 8 → Takes p (begun t p (Operation.Deref q)) 3 (Outcome.Found (name_at t.shared q))
-deref_three t p (at.Root g) h =
-    more _ _ 2 _ (seat_here _ p _ _ h) (λ a. refl) (λ a.
-    more _ _ 1 _ (seat_here _ p _ _ h) (λ b. refl) (λ b.
-    last _ _ _ (seat_here _ p _ _ h) (λ c. verified_ends _ _)))
-deref_three t p (at.Link r x) h =
-    more _ _ 2 _ (seat_here _ p _ _ h) (λ a. refl) (λ a.
-    more _ _ 1 _ (seat_here _ p _ _ h) (λ b. refl) (λ b.
-    last _ _ _ (seat_here _ p _ _ h) (λ c. verified_ends _ _)))
+deref_three t p q h = look_more p h (begun t p (Operation.Deref q)) q (seat_here _ p _ _ h)
 
 pub swap_one : (t : Table) (p : ℕ) (q : Spot) → p < 8 → name_at t.shared q ≡ None → Takes p (begun t p (Operation.Cas q None None)) 1 (Outcome.Swapped true)
 swap_one t p q h e = last _ _ _ (seat_here _ p _ _ h)
