@@ -21,7 +21,10 @@ mod tests {
         assert_eq!(rt; Slip::read(&[0, 0, 0, 12, 1, 0, 0]), Err(CardFault::Length));
         assert_eq!(rt; Slip::read(&[]), Err(CardFault::Length));
         assert_eq!(rt; Slip::new(12, 251), Err(CardFault::Field(4)));
-        assert_eq!(rt; Slip::new(1, 25)?.write().as_slice(), [0, 0, 0, 1, 0, 25].as_slice());
+        assert_eq!(rt;
+            Slip::new(1, 25)?.write().as_slice(),
+            [0, 0, 0, 1, 0, 25].as_slice()
+        );
         Ok(())
     }
 
@@ -65,7 +68,10 @@ mod tests {
             Some(CardFault::Length)
         );
         assert_eq!(rt; recipe_fault(&[]), Some(CardFault::Length));
-        assert_eq!(rt; largest.write().as_slice(), recipe_bytes(9999, 9999).as_slice());
+        assert_eq!(rt;
+            largest.write().as_slice(),
+            recipe_bytes(9999, 9999).as_slice()
+        );
         Ok(())
     }
 

@@ -1,7 +1,7 @@
 -- The laws of frames and answers: written and read, and nothing else read.
-use Rattle.std.proofs.Common.{◌≡◌, ℕ, ◌≤◌, List, [], ◌∷◌, length, Some, None, sym, refl, ap, ◌∙◌, arith}
-use Rattle.frames.specs.Answers.{AnswerValue, ACCEPTED, WORKING, FINISHED, CARD, REFUSED, answer_of, answer_bytes, ToldApart}
-use Rattle.frames.specs.Frames.{FrameValue, SETUP, DEREF, RELEASE, CAS, STORE, NEW, DELETE, STEP, FILL, READ, frame_of, frame_bytes}
+use Rattle.std.proofs.Common.{◌≡◌, ℕ, ◌≤◌, List, [], ◌∷◌, length, Some, refl, arith}
+use Rattle.frames.specs.Answers.{ACCEPTED, WORKING, FINISHED, CARD, REFUSED, answer_of, answer_bytes}
+use Rattle.frames.specs.Frames.{SETUP, DEREF, RELEASE, CAS, STORE, NEW, DELETE, STEP, FILL, READ, frame_bytes}
 use Rattle.frames.specs.Laws.{FramesComeBack, FrameLinesComeBack, AnswersComeBack}
 use Rattle.frames.specs.declared.refusal.Refusal.{Refusal}
 use Rattle.frames.specs.declared.refusal.Refusal.TheVariants as why

@@ -1,11 +1,10 @@
 -- The laws of lines: written and read, capitals, the case of letters.
-use Rattle.std.proofs.Common.{◌≡◌, ℕ, ◌+◌, ◌*◌, ◌/◌, ◌%◌, ◌<◌, ◌≤◌, cond, ltb, leb, List, [], ◌∷◌, map, length, Some, None, Option, sym, refl, ap, ◌∙◌, arith}
+use Rattle.std.proofs.Common.{◌≡◌, ℕ, ◌+◌, ◌*◌, ◌/◌, ◌%◌, ◌<◌, ◌≤◌, List, [], ◌∷◌, map, length, Some, sym, refl, ap, ◌∙◌, arith}
 use Rattle.std.proofs.lemmas.List.{length-map}
 use Rattle.std.proofs.lemmas.Bool.{cond-true, le-leb}
 use Rattle.std.proofs.lemmas.Bool.Decides.{nat_tests}
 use Rattle.std.specs.Char.{to_ascii_uppercase}
-use Rattle.std.specs.List.{AllByRecursion as All}
-use Rattle.frames.specs.Hexadecimal.{digit_of, joined_digits, byte_of, before, bytes_of_pairs, bytes_of_line, capital_of, written}
+use Rattle.frames.specs.Hexadecimal.{digit_of, bytes_of_pairs, bytes_of_line, capital_of, written}
 use Rattle.frames.specs.Laws.{Bytes, BytesComeBack, Capital, OnlyCapitals, CaseIsFree}
 
 capital_reads : (d : ℕ) → d < 16 → digit_of (capital_of d) ≡ Some d

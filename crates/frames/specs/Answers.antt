@@ -1,5 +1,5 @@
 -- The bytes of each answer, and the answer that bytes are.
-use Rattle.std.specs.Prelude.{◌≡◌, ℕ, ◌≤◌, cond, List, [], ◌∷◌, length, Some, None, Option, ◌==◌}
+use Rattle.std.specs.Prelude.{ℕ, ◌≤◌, cond, List, [], ◌∷◌, length, Some, None, Option, ◌==◌}
 use Rattle.std.specs.Option.{option_map}
 use Rattle.frames.specs.Refusals.{number_of, layer_of, layer_number, refusal_of}
 use Rattle.frames.specs.declared.answer.Answer.{Answer}

@@ -1,5 +1,5 @@
 -- A line of hexadecimal digits, and the bytes that it stands for.
-use Rattle.std.specs.Prelude.{◌≡◌, ℕ, ◌+◌, ◌-◌, ◌*◌, ◌/◌, ◌%◌, ◌<◌, cond, ◌&&◌, List, [], ◌∷◌, ◌++◌, length, take, Some, None, Ok, Err, Option, Result, nat_le, nat_lt}
+use Rattle.std.specs.Prelude.{◌≡◌, ℕ, ◌+◌, ◌-◌, ◌*◌, ◌/◌, ◌%◌, ◌<◌, cond, ◌&&◌, List, [], ◌∷◌, length, take, Some, None, Ok, Err, Option, Result, nat_le, nat_lt}
 use Rattle.frames.specs.declared.line.LineBytes.{LineBytes}
 use Rattle.frames.specs.declared.line.LineText.{LineText}
 use Rattle.frames.specs.declared.refusal.LineFault.{LineFault}

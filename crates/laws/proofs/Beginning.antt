@@ -1,5 +1,5 @@
 -- Every beginning that is not refused keeps the table sound.
-use Rattle.std.proofs.Common.{◌≡◌, ℕ, ◌+◌, ◌-◌, ◌/◌, ◌%◌, ◌<◌, true, false, cond, not, ltb, ◌⊎◌, List, [], ◌∷◌, ◌++◌, length, Some, None, Option, sym, refl, ap, ◌∙◌, subst, inl, inr, arith}
+use Rattle.std.proofs.Common.{◌≡◌, ℕ, ◌+◌, ◌/◌, ◌%◌, ◌<◌, true, false, cond, not, ltb, ◌⊎◌, List, [], ◌∷◌, ◌++◌, length, Some, None, Option, sym, refl, ap, ◌∙◌, subst, inl, inr, arith}
 use Rattle.std.proofs.lemmas.Bool.{cases_eq, false≢true, ltb-true}
 use Rattle.terms.specs.declared.Record.{Record}
 use Rattle.terms.specs.declared.Position.{Position}
@@ -10,14 +10,14 @@ use Rattle.terms.specs.declared.Standing.{Standing}
 use Rattle.terms.specs.declared.Standing.TheVariants.{Pooled, Fresh, Retired}
 use Rattle.terms.specs.Words.{is_none, lowest, same_name}
 use Rattle.memory.specs.declared.access.Write.{Write}
-use Rattle.memory.specs.Shared.{Shared, lowest_naming, blank}
-use Rattle.memory.specs.Standings.{set_standing, named}
+use Rattle.memory.specs.Shared.{Shared, lowest_naming}
+use Rattle.memory.specs.Standings.{set_standing}
 use Rattle.work.specs.declared.work.AfterLook.TheVariants as look
 use Rattle.work.specs.declared.work.AfterSwap.TheVariants as swap
 use Rattle.work.specs.declared.work.AfterStore.TheVariants as store
 use Rattle.work.specs.declared.work.Point.TheVariants.{End, Take, Look, Swap, Save}
-use Rattle.work.specs.Plans.{Plan, plan, Notes, slot, station, place, noted, pushed}
-use Rattle.work.specs.Steps.{quiet, begin_of}
+use Rattle.work.specs.Plans.{Plan, plan, Notes, place, noted, pushed}
+use Rattle.work.specs.Steps.{begin_of}
 use Rattle.machine.specs.Tables.{Sizes, sight_in, Table}
 use Rattle.protocol.specs.Words.{upd}
 use Rattle.protocol.specs.State.{State, resting, passed}
@@ -38,14 +38,12 @@ use Rattle.laws.proofs.Names.{same_num}
 use Rattle.laws.proofs.Rooms.{firm_on, two_rooms, room_on, is_none_num}
 use Rattle.laws.proofs.Owed.{ready_of}
 use Rattle.laws.proofs.Spots.{Spotted, spotted_below, link_owner}
-use Rattle.terms.specs.declared.Station.{Station}
 use Rattle.protocol.specs.Effects.{after_reset_scan, after_begin_store, after_retire}
-use Rattle.laws.proofs.Walks.{at}
 use Rattle.work.specs.declared.work.Entry.{Entry}
 use Rattle.laws.specs.Lists.{Filed}
 use Rattle.laws.proofs.Dereference.{held_holds, held_within}
 use Rattle.work.specs.declared.notes.Note.{Note}
-use Rattle.laws.proofs.Filing.{pushed_snoc, keeps, adds}
+use Rattle.laws.proofs.Filing.{pushed_snoc, adds}
 use Rattle.terms.specs.declared.Operation.{Operation}
 use Rattle.terms.specs.declared.Operation.TheVariants as op
 use Rattle.terms.proofs.Lowest.{lowest_at}

@@ -1,10 +1,8 @@
 -- A new table is sound; checks that all pass, and slots counted.
-use Rattle.std.proofs.Common.{◌≡◌, ℕ, zero, suc, ◌+◌, ◌-◌, ◌<◌, Bool, true, false, cond, List, [], ◌∷◌, ◌++◌, Some, None, Option, refl, ◌∙◌, inl, inr, arith}
+use Rattle.std.proofs.Common.{◌≡◌, ℕ, zero, suc, ◌+◌, ◌<◌, Bool, true, false, cond, List, [], ◌∷◌, ◌++◌, Some, None, Option, refl, ◌∙◌, inl, inr, arith}
 use Rattle.std.proofs.lemmas.Bool.{cond-true, ltb-true, lt-ltb}
 use Rattle.terms.specs.declared.Record.{Record}
 use Rattle.terms.specs.Words.{is_none}
-use Rattle.memory.specs.Shared.{blank}
-use Rattle.memory.specs.Standings.{named}
 use Rattle.machine.specs.Tables.{Sizes, new_table}
 use Rattle.protocol.proofs.Words.{none_some}
 use Rattle.laws.specs.Numbers.{shape}

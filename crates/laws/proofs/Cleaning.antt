@@ -16,7 +16,7 @@ use Rattle.work.specs.declared.work.AfterLook.{AfterLook}
 use Rattle.work.specs.declared.work.AfterLook.TheVariants as look
 use Rattle.work.specs.declared.work.AfterSwap.TheVariants as swap
 use Rattle.work.specs.declared.work.Point.TheVariants.{Verify, Swap, AskDeleted, AskPlace, AskDone, AskPlaceAgain}
-use Rattle.work.specs.Plans.{Plan, plan, Notes, Sight, slot, place, position, reached}
+use Rattle.work.specs.Plans.{Plan, plan, Notes, Sight, reached}
 use Rattle.work.specs.Steps.{quiet, swapped_of, counts_of, release_of, next_place, own_next, record_clean, link_clean, clean_at, scan_start, deleted_of, place_found, done_of, again_of, verified_of, derefed_of}
 use Rattle.machine.specs.Tables.{Sizes, sight_in}
 use Rattle.protocol.specs.State.{State, giving, Phase, resting, passed}

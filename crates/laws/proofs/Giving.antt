@@ -1,19 +1,19 @@
 -- SCAN, second pass: links cleared, and records given back.
-use Rattle.std.proofs.Common.{◌≡◌, ℕ, suc, ◌+◌, ◌-◌, ◌%◌, ◌<◌, true, false, ltb, List, [], ◌∷◌, ◌++◌, Some, None, Option, sym, refl, ap, ◌∙◌, subst, inl, inr, arith}
+use Rattle.std.proofs.Common.{◌≡◌, ℕ, suc, ◌+◌, ◌%◌, ◌<◌, true, false, ltb, List, [], ◌∷◌, ◌++◌, Some, None, Option, sym, refl, ap, ◌∙◌, subst, inl, inr, arith}
 use Rattle.std.proofs.lemmas.Bool.{cases_eq, cond_both, ltb-true}
 use Rattle.terms.specs.declared.Record.{Record}
 use Rattle.terms.specs.declared.Position.{Position}
 use Rattle.terms.specs.declared.Spot.{Spot}
 use Rattle.terms.specs.declared.Standing.{Standing}
 use Rattle.terms.specs.declared.Standing.TheVariants.{Pooled}
-use Rattle.terms.specs.Words.{lowest, same_name}
+use Rattle.terms.specs.Words.{same_name}
 use Rattle.memory.specs.declared.access.Write.{Write}
 use Rattle.memory.specs.Shared.{Shared, name_at, set_name}
 use Rattle.memory.specs.Standings.{set_standing, named}
 use Rattle.work.specs.declared.work.AfterSwap.TheVariants as swap
 use Rattle.work.specs.declared.work.AfterStore.TheVariants as store
 use Rattle.work.specs.declared.work.Point.TheVariants.{Swap, Save, Overwrite, AskLink, Give}
-use Rattle.work.specs.Plans.{Plan, plan, Notes, Sight, place, position, reached, noted}
+use Rattle.work.specs.Plans.{Plan, plan, Notes, Sight, position, reached, noted}
 use Rattle.work.specs.Steps.{quiet, swapped_of, stored_of, Turn, second_next, second_at, lower}
 use Rattle.machine.specs.Tables.{Sizes, sight_in}
 use Rattle.protocol.specs.Words.{upd}

@@ -1,11 +1,10 @@
 -- SCAN, first pass: SC4, SC5 and SC6.
-use Rattle.std.proofs.Common.{◌≡◌, ℕ, ◌+◌, ◌-◌, ◌<◌, ◌≤◌, Bool, true, false, List, [], ◌∷◌, length, ℤ, pos, negsuc, Some, None, Option, sym, refl, ap, ◌∙◌, subst, inl, inr, arith}
+use Rattle.std.proofs.Common.{◌≡◌, ℕ, ◌+◌, ◌<◌, ◌≤◌, Bool, true, false, List, [], ◌∷◌, length, ℤ, pos, negsuc, Some, None, Option, sym, refl, ap, ◌∙◌, subst, inl, inr, arith}
 use Rattle.std.proofs.lemmas.Bool.{cases_eq, false≢true, eqb-true}
 use Rattle.terms.specs.declared.Standing.{Standing}
 use Rattle.memory.specs.declared.access.Write.{Write}
 use Rattle.memory.specs.Shared.{Shared}
-use Rattle.memory.specs.Standings.{named}
-use Rattle.work.specs.Plans.{Notes, slot, place, reached}
+use Rattle.work.specs.Plans.{Notes, reached}
 use Rattle.work.specs.Steps.{quiet, first_pass, counted_first, counted_again}
 use Rattle.machine.specs.Tables.{Sizes}
 use Rattle.protocol.specs.Words.{upd}

@@ -4,7 +4,7 @@ use Rattle.std.specs.Int.{saturate_to_bits}
 use Rattle.std.proofs.lemmas.Int.{ints}
 use Rattle.std.proofs.lemmas.Bool.{eq-eqb, eqb-true, false≢true}
 use Rattle.terms.specs.declared.Record.{Record}
-use Rattle.terms.specs.Words.{same_name, lowest}
+use Rattle.terms.specs.Words.{same_name}
 use Rattle.terms.proofs.Lowest.{lowest_below, lowest_at}
 use Rattle.memory.specs.Shared.{lowest_naming}
 use Rattle.protocol.proofs.Words.{none_some, some_same}

@@ -1,5 +1,5 @@
 -- SCAN, second pass: who is kept, and who is given back.
-use Rattle.std.proofs.Common.{◌≡◌, ℕ, ◌+◌, ◌-◌, ◌<◌, ◌≤◌, Bool, true, false, not, ◌&&◌, eqb, List, [], ◌∷◌, ◌++◌, length, Some, None, Option, sym, refl, ap, ◌∙◌, subst, inl, inr, arith}
+use Rattle.std.proofs.Common.{◌≡◌, ℕ, ◌+◌, ◌<◌, ◌≤◌, Bool, true, false, not, ◌&&◌, eqb, List, [], ◌∷◌, ◌++◌, length, Some, None, Option, sym, refl, ap, ◌∙◌, subst, inl, inr, arith}
 use Rattle.std.proofs.lemmas.Bool.{cases_lt, cond_both, eqb-true, eqb-false, and_parts, not-true}
 use Rattle.terms.specs.declared.Record.{Record}
 use Rattle.terms.specs.declared.Position.{Position}
@@ -7,12 +7,11 @@ use Rattle.terms.specs.declared.Spot.{Spot}
 use Rattle.terms.specs.declared.Standing.{Standing}
 use Rattle.memory.specs.declared.access.Write.{Write}
 use Rattle.memory.specs.Shared.{Shared}
-use Rattle.memory.specs.Standings.{named}
 use Rattle.work.specs.declared.work.AfterSwap.TheVariants as swap
 use Rattle.work.specs.declared.work.AfterStore.TheVariants as store
 use Rattle.work.specs.declared.work.Point.{Point}
 use Rattle.work.specs.declared.work.Point.TheVariants.{Swap, Save, CountSecond, AskTrace, AskClaims, AskLink}
-use Rattle.work.specs.Plans.{Plan, plan, Notes, Sight, slot, place, position, reached, noted, kept_too, pushed}
+use Rattle.work.specs.Plans.{Plan, plan, Notes, Sight, position, reached, noted, kept_too, pushed}
 use Rattle.work.specs.Steps.{quiet, Turn, second_next, second_at, count_kept, counted_second, traced_of, claims_of}
 use Rattle.machine.specs.Tables.{Sizes, sight_in}
 use Rattle.protocol.specs.Words.{upd}

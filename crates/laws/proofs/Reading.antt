@@ -5,7 +5,6 @@ use Rattle.terms.specs.declared.Record.{Record}
 use Rattle.terms.specs.declared.Slot.{Slot}
 use Rattle.terms.specs.declared.Standing.{Standing}
 use Rattle.memory.specs.Shared.{Shared}
-use Rattle.memory.specs.Standings.{named}
 use Rattle.work.specs.declared.work.Point.{Point}
 use Rattle.work.specs.Plans.{plan, Notes, slot, station, head_of, noted, saw}
 use Rattle.machine.specs.Tables.{Sizes, sight_in}

@@ -4,8 +4,8 @@ use mathlib.Core.Path.{fun_ext}
 use Rattle.std.proofs.lemmas.Bool.{cases_eq, cases_lt, cond-true, cond_both, ltb-true, eqb-false, eq-eqb}
 use Rattle.terms.specs.declared.Record.{Record}
 use Rattle.memory.specs.declared.access.Write.{Write}
-use Rattle.work.specs.Plans.{Notes, Sight, slot, station, place, head_of}
-use Rattle.work.specs.Steps.{quiet, release_of, round_at, round_of, next_place, scan_start, first_pass}
+use Rattle.work.specs.Plans.{Notes, Sight, head_of}
+use Rattle.work.specs.Steps.{release_of, round_at, round_of, next_place, scan_start, first_pass}
 use Rattle.machine.specs.Tables.{Sizes}
 use Rattle.protocol.specs.Words.{upd}
 use Rattle.protocol.specs.State.{State, Phase, resting}
@@ -19,7 +19,7 @@ use Rattle.laws.specs.Lists.{place_of, Unscanned, First}
 use Rattle.laws.specs.Points.{AtPoint, Firm, Naming, TwoRooms, RoomBeside, HeldHere}
 use Rattle.laws.specs.Fits.{Lawful}
 use Rattle.laws.proofs.Rows.{upd_here}
-use Rattle.laws.proofs.Rooms.{beside, one_room, firm_on, two_rooms}
+use Rattle.laws.proofs.Rooms.{one_room, firm_on, two_rooms}
 use Rattle.terms.specs.declared.Station.{Station}
 use Rattle.terms.specs.declared.Place.{Place}
 use Rattle.work.specs.declared.work.Reached.{Reached}

@@ -1,5 +1,5 @@
 -- Walks down a list, and the entries that are filed as it changes.
-use Rattle.std.proofs.Common.{◌≡◌, ℕ, zero, suc, ◌+◌, ◌-◌, ◌≤◌, ltb, List, length, Some, None, Option, sym, refl, subst, arith}
+use Rattle.std.proofs.Common.{◌≡◌, ℕ, zero, suc, ◌+◌, ◌≤◌, ltb, List, length, Some, None, Option, sym, refl, subst, arith}
 use Rattle.std.proofs.lemmas.Bool.{cond-true, lt-ltb}
 use Rattle.work.specs.declared.work.Entry.{Entry}
 use Rattle.work.specs.declared.work.Reached.{Reached}

@@ -12,7 +12,7 @@ use Rattle.work.specs.declared.work.AfterSwap.TheVariants as swap
 use Rattle.work.specs.declared.work.AfterStore.{AfterStore}
 use Rattle.work.specs.declared.work.AfterStore.TheVariants as store
 use Rattle.work.specs.declared.work.Point.TheVariants.{End, Swap, Overwrite}
-use Rattle.work.specs.Plans.{plan, Notes, Sight, slot}
+use Rattle.work.specs.Plans.{plan, Notes, Sight}
 use Rattle.work.specs.Steps.{quiet, swapped_of, stored_of, counts_of}
 use Rattle.machine.specs.Tables.{Sizes, sight_in}
 use Rattle.protocol.specs.State.{State}

@@ -9,7 +9,6 @@ use Rattle.settings.specs.declared.choices.KindChoice.{KindChoice}
 use Rattle.words.specs.FrameWords.{frame_words}
 use Rattle.words.specs.RefusalWords.{refused_words}
 use Rattle.words.specs.Totals.{counted}
-use Rattle.words.specs.declared.totals.Totals.{Totals}
 use Rattle.log_words.specs.Remarks.{remark, KindAfter}
 use Rattle.log_words.specs.declared.log.Log.{Log}
 

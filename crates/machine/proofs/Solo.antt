@@ -1,16 +1,16 @@
 -- Operations of one station while no other takes a turn.
-use Rattle.std.proofs.Common.{◌≡◌, ℕ, suc, ◌+◌, ◌<◌, Bool, true, false, cond, eqb, ◌⊎◌, List, [], ◌∷◌, length, Some, None, Option, sym, refl, ap, ◌∙◌, subst, inl, inr, arith}
-use Rattle.std.proofs.lemmas.Bool.{eq-eqb, cond-true}
+use Rattle.std.proofs.Common.{◌≡◌, ℕ, suc, ◌+◌, ◌<◌, Bool, true, cond, List, [], ◌∷◌, length, Some, None, Option, refl, ap, ◌∙◌, subst, inl, inr, arith}
+use Rattle.std.proofs.lemmas.Bool.{eq-eqb}
 use Rattle.terms.specs.declared.Record.{Record}
 use Rattle.terms.specs.declared.Position.{Position}
 use Rattle.terms.specs.declared.Spot.{Spot}
 use Rattle.terms.specs.declared.Spot.TheVariants as at
 use Rattle.terms.specs.declared.Outcome.{Outcome}
 use Rattle.terms.specs.declared.Operation.{Operation}
-use Rattle.terms.specs.Words.{put, same_name}
+use Rattle.terms.specs.Words.{same_name}
 use Rattle.terms.proofs.Puts.{put_tells}
 use Rattle.memory.specs.Shared.{Shared, name_at}
-use Rattle.work.specs.Plans.{Plan, Notes, Going, plan}
+use Rattle.work.specs.Plans.{Plan, Notes, plan}
 use Rattle.memory.specs.declared.access.Write.{Write}
 use Rattle.memory.specs.declared.access.WordAccess.{WordAccess}
 use Rattle.memory.specs.Perform.{after_of}
@@ -19,8 +19,8 @@ use Rattle.work.specs.declared.work.AfterLook.TheVariants as look
 use Rattle.work.specs.declared.work.AfterStore.TheVariants as store
 use Rattle.work.specs.declared.work.Point.TheVariants.{End, Look, LookAgain, Verify, Overwrite}
 use Rattle.work.specs.Steps.{settle}
-use Rattle.machine.specs.Tables.{Sizes, Seat, Table}
-use Rattle.machine.specs.Steps.{turned, turn_answer, answer_after, seated}
+use Rattle.machine.specs.Tables.{Seat, Table}
+use Rattle.machine.specs.Steps.{answer_after, seated}
 use Rattle.machine.specs.Begin.{begun}
 use Rattle.machine.specs.Solo.{Takes, last, more, counted}
 

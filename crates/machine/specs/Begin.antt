@@ -14,7 +14,7 @@ use Rattle.memory.specs.Shared.{lowest_naming}
 use Rattle.memory.specs.Standings.{set_standing}
 use Rattle.work.specs.Plans.{Plan, noted}
 use Rattle.work.specs.Steps.{begin_of}
-use Rattle.machine.specs.Tables.{Sizes, Seat, Table, sight_in}
+use Rattle.machine.specs.Tables.{Sizes, Table, sight_in}
 use Rattle.machine.specs.Steps.{seated}
 
 -- A check: whether it passes, and the refusal that it earns otherwise, with the place of the byte in its frame.

@@ -1,13 +1,13 @@
 -- A station that takes turn after turn while no other does: how many turns its operation takes, and what it answers.
-use Rattle.std.specs.Prelude.{◌≡◌, ℕ, suc, ◌+◌, ◌<◌, true, false, cond, Some, None, Option}
+use Rattle.std.specs.Prelude.{◌≡◌, ℕ, suc, ◌+◌, ◌<◌, true, Some, None, Option}
 use Rattle.terms.specs.declared.Record.{Record}
 use Rattle.terms.specs.declared.Position.{Position}
 use Rattle.terms.specs.declared.Spot.{Spot}
 use Rattle.terms.specs.declared.Outcome.{Outcome}
 use Rattle.terms.specs.declared.Operation.{Operation}
-use Rattle.memory.specs.Shared.{Shared, name_at}
+use Rattle.memory.specs.Shared.{name_at}
 use Rattle.work.specs.Plans.{Plan}
-use Rattle.machine.specs.Tables.{Sizes, Seat, Table}
+use Rattle.machine.specs.Tables.{Table}
 use Rattle.machine.specs.Steps.{turned, turn_answer}
 use Rattle.machine.specs.Begin.{begun}
 

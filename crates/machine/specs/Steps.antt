@@ -11,7 +11,7 @@ use Rattle.memory.specs.Perform.{found_of, after_of}
 use Rattle.memory.specs.Standings.{standing_after}
 use Rattle.work.specs.Plans.{Plan, Going, busy, ended, Notes, access_of}
 use Rattle.work.specs.Steps.{advance_of, notes_after}
-use Rattle.machine.specs.Tables.{Sizes, Seat, Table, sight_in, record_numbered}
+use Rattle.machine.specs.Tables.{Seat, Table, sight_in, record_numbered}
 
 -- What the access of station p finds. Only a take finds something that is not settled by the table: the pool's pick.
 abbrev pub found_in : Shared → Option ℕ → ℕ → Option Access → Found

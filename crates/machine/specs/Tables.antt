@@ -1,9 +1,8 @@
 -- A whole table: its sizes, the shared words, the standings, what each station is doing and keeps, and the pool as a set.
-use Rattle.std.specs.Prelude.{ℕ, Bool, true, false, cond, Some, None, Option, nat_lt}
+use Rattle.std.specs.Prelude.{ℕ, Bool, Some, None, Option, nat_lt}
 use Rattle.terms.specs.declared.Record.{Record}
 use Rattle.terms.specs.declared.Standing.{Standing}
 use Rattle.terms.specs.declared.Standing.TheVariants.{Pooled}
-use Rattle.terms.specs.Words.{put}
 use Rattle.memory.specs.Shared.{Shared, blank}
 use Rattle.work.specs.Plans.{Plan, Notes, no_notes, Sight}
 

@@ -1,5 +1,5 @@
 -- What an access found, read as a name, a flag or a test for zero.
-use Rattle.std.specs.Prelude.{ℕ, Bool, true, false, ℤ, pos, negsuc, Some, None, Option, ◌==◌}
+use Rattle.std.specs.Prelude.{Bool, false, ℤ, pos, negsuc, None, Option, ◌==◌}
 use Rattle.terms.specs.declared.Record.{Record}
 use Rattle.memory.specs.declared.access.Found.{Found}
 use Rattle.memory.specs.declared.access.Found.TheVariants.{Nothing, Name, Flag, Number}

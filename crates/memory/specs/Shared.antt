@@ -1,5 +1,5 @@
 -- The shared words as functions from numbers, and one word changed.
-use Rattle.std.specs.Prelude.{ℕ, ◌+◌, ◌-◌, min, Bool, true, false, cond, ℤ, pos, negsuc, ◌+ℤ◌, Some, None, Option}
+use Rattle.std.specs.Prelude.{ℕ, Bool, false, cond, ℤ, pos, ◌+ℤ◌, Some, None, Option}
 use Rattle.std.specs.Int.{saturate_to_bits}
 use Rattle.terms.specs.declared.Record.{Record}
 use Rattle.terms.specs.declared.Spot.{Spot}

@@ -1,6 +1,6 @@
 -- Each record's standing, and what an access makes of it. No step decides by a standing: it is kept for the
 -- refusals that speak of fresh and retired records.
-use Rattle.std.specs.Prelude.{ℕ, Bool, true, false, cond, Some, None, Option}
+use Rattle.std.specs.Prelude.{ℕ, cond, Some, None, Option}
 use Rattle.terms.specs.declared.Record.{Record}
 use Rattle.terms.specs.declared.Standing.{Standing}
 use Rattle.terms.specs.declared.Standing.TheVariants as is

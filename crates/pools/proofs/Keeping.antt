@@ -1,11 +1,10 @@
 -- What a pool keeps, as a member goes and as one comes. Assumes nothing.
-use Rattle.std.proofs.Common.{◌≡◌, ℕ, zero, suc, ◌+◌, ◌<◌, ◌≤◌, Bool, true, false, cond, not, ◌&&◌, ◌||◌, eqb, ltb, ◌⊎◌, List, [], ◌∷◌, ◌++◌, length, get_or, set, Some, sym, refl, ap, ◌∙◌, subst, inl, inr, ⊎_elim, arith, length-set, get_or-set_other, get_or-set_same}
+use Rattle.std.proofs.Common.{◌≡◌, ℕ, ◌<◌, ◌≤◌, Bool, true, false, cond, not, ◌&&◌, ◌||◌, eqb, ltb, ◌⊎◌, List, [], ◌∷◌, ◌++◌, length, get_or, set, Some, sym, refl, ap, ◌∙◌, inl, inr, ⊎_elim, arith, length-set, get_or-set_other, get_or-set_same}
 use mathlib.Core.Path.{fun_ext}
 use Rattle.std.proofs.lemmas.Bool.{and_parts, and_from, not-true, not_from_false, cases_eq, ne_eqb, eq-eqb, eqb-true, or_left, or_right, or_cases, or_from, or_parts, cond-true, cond_both, eqb-false, lt-ltb}
-use Rattle.std.proofs.lemmas.Bool.Decides.{nat_tests}
-use Rattle.pools.specs.Sets.{adding, without, given}
+use Rattle.pools.specs.Sets.{without, given}
 use Rattle.pools.specs.Orders.{listed, apart, Kept}
-use Rattle.pools.proofs.Counts.{how_many, how_many_le, few}
+use Rattle.pools.proofs.Counts.{how_many_le, few}
 
 -- a mark after one is written
 pub marked : (members : List Bool) (node x : ℕ) (b : Bool) → node < length members → get_or (set members node b) x false ≡ cond (eqb x node) b (get_or members x false)

@@ -3,7 +3,7 @@ use Rattle.std.proofs.Common.{◌≡◌, ℕ, ◌<◌, true, false, Some, None, 
 use Rattle.std.proofs.lemmas.Bool.{false≢true}
 use Rattle.terms.specs.declared.Standing.TheVariants.{Pooled, Retired}
 use Rattle.protocol.specs.Words.{upd}
-use Rattle.protocol.specs.State.{State, resting, gone, giving}
+use Rattle.protocol.specs.State.{State, resting, giving}
 use Rattle.protocol.specs.Shape.{Shape, Holds, through, vacated}
 use Rattle.protocol.specs.Effects.{after_retire, after_mark_deleted, after_trace, after_fill_place, after_claim, after_look_again, after_unclaim, after_give}
 use Rattle.protocol.specs.Invariant.{Inv}

@@ -2,7 +2,7 @@
 use Rattle.std.proofs.Common.{◌≡◌, ℕ, ◌<◌, true, false, Some, None, sym, refl, ap, ◌∙◌, inl, inr}
 use Rattle.std.proofs.lemmas.Bool.{false≢true}
 use Rattle.protocol.specs.Words.{upd, Names}
-use Rattle.protocol.specs.State.{State, Phase, marking, passed, gone, giving}
+use Rattle.protocol.specs.State.{State, Phase, marking, passed, giving}
 use Rattle.protocol.specs.Setters.{set_place, set_low, set_phase}
 use Rattle.protocol.specs.Shape.{Shape, through, vacated}
 use Rattle.protocol.specs.Clauses.{Listed, Saved, Claimed, Traced, Scanned, Gone, Cleared}

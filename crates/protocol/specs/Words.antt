@@ -1,5 +1,5 @@
 -- Functions from numbers with one point changed, and how often one of them names a number.
-use Rattle.std.specs.Prelude.{◌≡◌, ℕ, zero, suc, ◌+◌, ◌<◌, cond, Some, None, Option, ◌==◌, ◌≢◌}
+use Rattle.std.specs.Prelude.{ℕ, zero, suc, ◌+◌, ◌<◌, cond, Some, None, Option, ◌==◌, ◌≢◌}
 
 -- f with v at i.
 unfoldable pub upd : {A : Type 0} → (ℕ → A) → ℕ → A → ℕ → A

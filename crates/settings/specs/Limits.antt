@@ -1,5 +1,5 @@
 -- What holds of every settings value and of every line's first fault. Assumes nothing.
-use Rattle.std.specs.Prelude.{◌≡◌, ℕ, ◌<◌, ◌≤◌, Bool, true, false, Some, None, Option}
+use Rattle.std.specs.Prelude.{◌≡◌, ◌<◌, ◌≤◌, Bool, true, false, Some, None, Option}
 use Rattle.frames.specs.declared.frame.SetupBytes.{SetupBytes}
 use Rattle.settings.specs.declared.bytes.SetupByte.{SetupByte}
 use Rattle.settings.specs.declared.bytes.SetupByte.TheVariants.{Stations, Slots, Records, Roots, T1, T2, Kind, Pool}

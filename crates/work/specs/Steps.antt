@@ -1,5 +1,5 @@
 -- What a station does with what its access found, up to the next access: every operation, line by line.
-use Rattle.std.specs.Prelude.{ℕ, ◌+◌, Bool, true, false, cond, not, ◌&&◌, List, [], ◌∷◌, ◌++◌, length, Some, None, Option, ◌==◌, nat_le, nat_lt}
+use Rattle.std.specs.Prelude.{ℕ, ◌+◌, Bool, cond, not, ◌&&◌, List, [], ◌∷◌, ◌++◌, length, Some, None, Option, ◌==◌, nat_le, nat_lt}
 use Rattle.terms.specs.declared.Record.{Record}
 use Rattle.terms.specs.declared.Station.{Station}
 use Rattle.terms.specs.declared.Slot.{Slot}
@@ -28,7 +28,7 @@ use Rattle.work.specs.declared.work.Point.{Point}
 use Rattle.work.specs.declared.work.Point.TheVariants.{End, Take, Look, LookAgain, Verify, Swap, Save, Overwrite, AskDeleted, AskPlace, AskDone, AskPlaceAgain, CountFirst, CountAgain, AskSlot, CountSecond, AskTrace, AskClaims, AskLink, Give}
 use Rattle.work.specs.declared.notes.Note.{Note}
 use Rattle.work.specs.declared.turn.Turn as code
-use Rattle.work.specs.Plans.{Plan, plan, plan_of, Going, busy, ended, Sight, Notes, free_slot, station, slot, place, position, pushed, noted, reached, head_of}
+use Rattle.work.specs.Plans.{Plan, plan, plan_of, Going, busy, ended, Sight, Notes, free_slot, station, slot, place, position, noted, reached, head_of}
 
 -- What a decision comes to: a plan, and a change of the station's notes.
 pub record Turn : Type 0 where

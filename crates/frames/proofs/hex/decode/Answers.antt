@@ -1,5 +1,5 @@
 -- A line that is too long has no bytes; the loop begins with none and each turn adds one.
-use Rattle.std.proofs.Common.{◌+◌, ◌<◌, ◌≤◌, length, take, drop, refl, ap, ◌∙◌, zero-add, arith, length-drop, length-set, rules}
+use Rattle.std.proofs.Common.{◌<◌, ◌≤◌, length, refl, ap, ◌∙◌, zero-add, arith, length-drop, length-set, rules}
 use Rattle.std.proofs.lemmas.List.{take_rest}
 use Rattle.std.proofs.lemmas.Bool.{cond-false, lt-leb}
 use Rattle.frames.specs.Hexadecimal.{bytes_of_pairs}

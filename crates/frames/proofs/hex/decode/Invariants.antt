@@ -1,5 +1,5 @@
 -- The bytes so far and those of what is left are those of the line.
-use Rattle.std.proofs.Common.{◌≡◌, ◌+◌, ◌≤◌, length, take}
+use Rattle.std.proofs.Common.{◌≡◌, ◌+◌, length, take}
 use Rattle.frames.specs.Hexadecimal.{bytes_of_pairs}
 use Rattle.frames.proofs.Decoding.{onto}
 use Rattle.frames.proofs.hex.decode.Given as goal

@@ -1,5 +1,5 @@
 -- What was given is a member, and each member is issued.
-use Rattle.std.proofs.Common.{◌≡◌, ℕ, Bool, ltb, refl, ap, ◌∙◌}
+use Rattle.std.proofs.Common.{ℕ, Bool, ltb, refl, ap, ◌∙◌}
 use Rattle.std.proofs.lemmas.Bool.{cond-true, lt-ltb, or_left, eq-eqb}
 use Rattle.pools.specs.Sets.{adding}
 use Rattle.pools.proofs.laws.give_and_drain.Goals as goal

@@ -1,4 +1,4 @@
-use Rattle.std.proofs.Common.{◌≡◌, ℕ, List, [], get_or, refl, ap, ◌∙◌}
+use Rattle.std.proofs.Common.{List, [], refl, ap, ◌∙◌}
 use Rattle.std.proofs.lemmas.List.{get_or_default}
 use Rattle.terms.specs.Words.{put, put_in, cells, reads}
 use Rattle.terms.proofs.Puts.{cells_set, put_past}

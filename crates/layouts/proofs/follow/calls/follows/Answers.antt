@@ -1,5 +1,5 @@
 -- Each position is written with the one that follows it.
-use Rattle.std.proofs.Common.{◌≡◌, ℕ, ◌+◌, ◌<◌, ◌≤◌, ltb, length, get_or, set, replicate, Some, unwrap_or, sym, refl, ap, ◌∙◌, ⊎_elim, arith, length-set, get_or-set_other}
+use Rattle.std.proofs.Common.{◌≡◌, ℕ, ◌<◌, ltb, length, get_or, set, replicate, Some, unwrap_or, refl, ap, ◌∙◌, ⊎_elim, arith, length-set, get_or-set_other}
 use Rattle.layouts.specs.Positions.{following_of}
 use Rattle.std.proofs.lemmas.List.Edits.{fill_by_more}
 use Rattle.std.proofs.lemmas.List.{get_or-replicate, get_or_past}

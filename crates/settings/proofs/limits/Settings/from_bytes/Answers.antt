@@ -1,5 +1,5 @@
 -- Each number that passed its test lies within its limits.
-use Rattle.std.proofs.Common.{◌≡◌, ℕ, ◌≤◌, true, sym, refl, ap, subst}
+use Rattle.std.proofs.Common.{◌≡◌, ℕ, ◌≤◌, true, sym, subst}
 use Rattle.std.proofs.lemmas.Bool.{and_parts, leb-true}
 use Rattle.settings.specs.Faults.{within}
 use Rattle.settings.proofs.limits.Settings.from_bytes.Goals as goal

@@ -1,5 +1,5 @@
 -- A record of the table that is no member finds room, and comes first.
-use Rattle.std.proofs.Common.{◌≡◌, ℕ, ◌+◌, ◌<◌, true, false, ltb, ◌∷◌, length, get_or, set, sym, refl, ap, ◌∙◌, subst, arith, rules}
+use Rattle.std.proofs.Common.{◌≡◌, ℕ, ◌+◌, ◌<◌, true, false, ltb, ◌∷◌, length, get_or, set, sym, refl, ◌∙◌, subst, arith, rules}
 use Rattle.std.proofs.lemmas.Bool.{cond-true, cond-false, lt-ltb}
 use Rattle.pools.specs.declared.stack.Stack.{Stack}
 use Rattle.pools.specs.Orders.{stacked, listed, put_first, Kept}

@@ -1,5 +1,5 @@
 -- The first of the order goes.
-use Rattle.std.proofs.Common.{◌≡◌, ℕ, ◌-◌, ◌<◌, false, ◌∷◌, get_or, sym, refl, ap, ◌∙◌, subst, arith}
+use Rattle.std.proofs.Common.{◌≡◌, ◌-◌, false, ◌∷◌, get_or, sym, refl, ap, ◌∙◌, subst, arith}
 use Rattle.pools.specs.Sets.{without}
 use Rattle.pools.specs.Orders.{stacked, front, rest, Kept}
 use Rattle.pools.specs.declared.stack.Stack.{Stack}
