@@ -98,7 +98,8 @@ def behind(text, at):
 def turn(text, turned, path):
     out, last = [], 0
     quoted = [m.span() for m in re.finditer(r'"(?:[^"\\\n]|\\.)*"', text)] if path.endswith(".rt") else []
-    for m in WORD.finditer(text):
+    word = WORD if path.endswith(".antt") else re.compile(WORD.pattern.replace("|", "|:"))
+    for m in word.finditer(text):
         if m[0] not in turned or any(a <= m.start() < b for a, b in quoted):
             continue
         if path.endswith(".antt") and behind(text, m.start()).split(".")[0] == "goal":

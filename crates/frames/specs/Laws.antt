@@ -1,13 +1,13 @@
 -- What writing and reading do to each other.
 use Rattle.std.specs.Prelude.{◌≡◌, ℕ, ◌<◌, ◌≤◌, ◌⊎◌, List, map, length, Some}
 use Rattle.std.specs.Char.{to_ascii_uppercase}
-use Rattle.std.specs.List.{AllByRecursion as All}
+use Rattle.std.specs.List.{AllByRecursion}
 use Rattle.frames.specs.Answers.{AnswerValue, answer_bytes, answer_of, ToldApart}
 use Rattle.frames.specs.Frames.{FrameValue, frame_bytes, frame_of}
 use Rattle.frames.specs.Hexadecimal.{bytes_of_line, written}
 
 abbrev pub Bytes : List ℕ → Type 0
-Bytes bs = All (λ b. b < 256) bs
+Bytes bs = AllByRecursion (λ b. b < 256) bs
 
 -- bytes that are written as a line are read back from it
 abbrev pub BytesComeBack : Type 0
@@ -19,7 +19,7 @@ Capital c = ((48 ≤ c) × (c ≤ 57)) ⊎ ((65 ≤ c) × (c ≤ 70))
 
 -- what is written is in capitals throughout
 abbrev pub OnlyCapitals : Type 0
-OnlyCapitals = (bs : List ℕ) → Bytes bs → All Capital (written bs)
+OnlyCapitals = (bs : List ℕ) → Bytes bs → AllByRecursion Capital (written bs)
 
 -- two lines that differ in nothing but the case of letters are read alike
 abbrev pub CaseIsFree : Type 0
