@@ -2,7 +2,7 @@
 use Rattle.std.proofs.Common.{◌≡◌, ℕ, zero, suc, ◌<◌, ◌≤◌, ◌⊎◌, List, [], length, get_or, set, replicate, sym, refl, ap, ◌∙◌, inl, inr, arith, get_or-set_other, get_or-set_same}
 use mathlib.Core.Path.{fun_ext}
 use Rattle.std.proofs.lemmas.Bool.{eq-eqb, ne_eqb, cases_eq, cases_lt, lt-ltb, le-ltb, cond-true, cond-false, and_from, and_left, and_right}
-use Rattle.std.proofs.lemmas.List.{set_past}
+use Rattle.std.proofs.lemmas.List.{set_past, get_or_default}
 use Rattle.terms.specs.Words.{reads, cells, put}
 
 -- Both ways at once, to be taken apart.
@@ -19,6 +19,15 @@ put_tells n f i v j = elim (cases_eq i j) [
 
 pub put_past : {A : Type 0} (n : ℕ) (f : ℕ → A) (i : ℕ) (v : A) → n ≤ i → ◌≡◌ {A = ℕ → A} f (put n f i v)
 put_past n f i v h = fun_ext (λ j. grind (arith, put_tells n f i v j))
+
+-- What an index finds below the end is what the list reads as there, whatever stands past the end.
+pub found_at : {A : Type 0} (xs : List A) (i : ℕ) (d v : A) → i < length xs → v ≡ get_or xs i v → v ≡ reads d xs i
+unfolding reads
+found_at xs i d v h e = e ∙ get_or_default xs i v d h
+
+pub row_at : {A : Type 0} (rows : List (List A)) (i : ℕ) (d : A) (v : List A) → i < length rows → v ≡ get_or rows i v → ◌≡◌ {A = ℕ → A} (reads d v) (cells d rows i)
+unfolding reads cells
+row_at {A = A} rows i d v h e = ap (λ (l : List A). reads d l) (found_at rows i [] v h e)
 
 -- Writing into a list is writing into what it reads as.
 pub reads_set : {A : Type 0} (d : A) (xs : List A) (i n : ℕ) (v : A) → length xs ≡ n → ◌≡◌ {A = ℕ → A} (reads d (set xs i v)) (put n (reads d xs) i v)

@@ -1,14 +1,11 @@
-use Rattle.std.proofs.Common.{List, [], sym, ap, ◌∙◌}
-use Rattle.std.proofs.lemmas.List.{get_or_past, get_or_default}
+use Rattle.std.proofs.Common.{List, [], sym, ap, ◌∙◌, rules}
+use Rattle.std.proofs.lemmas.List.{get_or_past}
 use Rattle.terms.specs.Words.{reads, cells}
-use Rattle.terms.proofs.Puts.{reads_replicate}
+use Rattle.terms.proofs.Puts.{reads_replicate, row_at}
 use Rattle.terms.proofs.tables.row.Goals as goal
 
 pub returns-then-at-rows : goal.returns-then-at-rows
-unfolding reads cells
-returns-then-at-rows g c =
-    ap (λ (l : List g.row.T.Denot). reads c.args.default l)
-    (c.index-rows-at.is ∙ get_or_default c.args.rows.now c.args.i _ [] c.if-at-rows.true)
+returns-then-at-rows g c = search (rules, row_at)
 
 pub returns-else-at-rows : goal.returns-else-at-rows
 unfolding reads cells
