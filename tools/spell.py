@@ -6,7 +6,7 @@ usage: tools/spell.py [--list]        at the top of the repository, once, right 
 Words of our own antt files that hold a dash or capitals inside are turned: a word to snake case ('standing-after' to 'standing_after',
 'onceNamed' to 'once_named'), a fact, type or module to camel case ('Fits-line' to 'FitsLine'). What turns is what specs/ and proofs/ declare,
 and the names that they bind; what Rattle makes (goals, labels behind 'c.', 'goal.' and the like), what the library declares, constructors
-and fields that come from src/, and Rust's own text stay. --list prints the table and writes nothing.
+and fields that come from src/, and Rust's own text stay; of src/ only the ghost fields in LABELS turn. --list prints the table and writes nothing.
 """
 
 import os
@@ -100,11 +100,12 @@ def turn(text, turned, path):
     quoted = [m.span() for m in re.finditer(r'"(?:[^"\\\n]|\\.)*"', text)] if path.endswith(".rt") else []
     word = WORD if path.endswith(".antt") else re.compile(WORD.pattern.replace("|", "|:"))
     for m in word.finditer(text):
-        if m[0] not in turned or any(a <= m.start() < b for a, b in quoted):
+        bare = m[0] if m[0] in turned else m[0].rstrip("'")
+        if bare not in turned or any(a <= m.start() < b for a, b in quoted):
             continue
         if path.endswith(".antt") and behind(text, m.start()).split(".")[0] == "goal":
             continue
-        out.append(text[last : m.start()] + turned[m[0]])
+        out.append(text[last : m.start()] + turned[bare] + m[0][len(bare) :])
         last = m.end()
     return "".join(out) + text[last:]
 

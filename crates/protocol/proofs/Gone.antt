@@ -50,9 +50,9 @@ unreferenced_now {h} {held = held} {r = r} all w (unnamed_yet u f) =
     }
 
 module _ {h : Shape} {names owes_up owes_clear owes_down held lists : Names} {phase : ℕ → Phase} (b : Gone h names owes_up owes_clear owes_down held lists phase) where
-  pub gone_map : {names' owesUp' owesClear' owesDown' held' : Names} →
-      ((w r : ℕ) → w < h.places → lists w ≡ Some r → Unreferenced h names owes_up owes_clear owes_down held r → Unreferenced h names' owesUp' owesClear' owesDown' held' r) →
-      Gone h names' owesUp' owesClear' owesDown' held' lists phase
+  pub gone_map : {names' owes_up' owes_clear' owes_down' held' : Names} →
+      ((w r : ℕ) → w < h.places → lists w ≡ Some r → Unreferenced h names owes_up owes_clear owes_down held r → Unreferenced h names' owes_up' owes_clear' owes_down' held' r) →
+      Gone h names' owes_up' owes_clear' owes_down' held' lists phase
   gone_map f = record { unreferenced = λ w r wW e l. f w r wW l (b.unreferenced w r wW e l) }
 
   pub gone_place : {lists' : Names} {phase' : ℕ → Phase} →

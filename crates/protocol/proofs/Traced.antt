@@ -26,15 +26,15 @@ cover_zero {h} {names} {count} {standing} {owes_up} {owes_clear} {owes_down} r b
 ]
 
 -- Where the words that `Cover` speaks of change.
-module _ {h : Shape} {names owes_up owes_clear owes_down held names' owesUp' owesClear' owesDown' held' lists : Names} {phase : ℕ → Phase} {trace trace' : ℕ → Bool} where
-  pub traced_map : ((r : ℕ) → trace' r ≡ true → (trace r ≡ true) × (Cover h names owes_up owes_clear owes_down held 0 false r → Cover h names' owesUp' owesClear' owesDown' held' 0 false r)) →
-      Traced h names trace owes_up owes_clear owes_down held lists phase → Traced h names' trace' owesUp' owesClear' owesDown' held' lists phase
+module _ {h : Shape} {names owes_up owes_clear owes_down held names' owes_up' owes_clear' owes_down' held' lists : Names} {phase : ℕ → Phase} {trace trace' : ℕ → Bool} where
+  pub traced_map : ((r : ℕ) → trace' r ≡ true → (trace r ≡ true) × (Cover h names owes_up owes_clear owes_down held 0 false r → Cover h names' owes_up' owes_clear' owes_down' held' 0 false r)) →
+      Traced h names trace owes_up owes_clear owes_down held lists phase → Traced h names' trace' owes_up' owes_clear' owes_down' held' lists phase
   traced_map f b = record { covered = λ r t. let (e, g) = f r t in elim (b.covered r e) [ inl m ↦ inl m | inr c ↦ inr (g c) ] }
 
   pub scanned_map : {read : ℕ → ℕ} {seen : ℕ → ℕ → Bool} →
       ((w r : ℕ) → w < h.places → lists w ≡ Some r → trace' r ≡ true → (trace r ≡ true) ×
-      ((k : ℕ) (s : Bool) → Cover h names owes_up owes_clear owes_down held k s r → Cover h names' owesUp' owesClear' owesDown' held' k s r)) →
-      Scanned h names trace owes_up owes_clear owes_down held lists phase read seen → Scanned h names' trace' owesUp' owesClear' owesDown' held' lists phase read seen
+      ((k : ℕ) (s : Bool) → Cover h names owes_up owes_clear owes_down held k s r → Cover h names' owes_up' owes_clear' owes_down' held' k s r)) →
+      Scanned h names trace owes_up owes_clear owes_down held lists phase read seen → Scanned h names' trace' owes_up' owes_clear' owes_down' held' lists phase read seen
   scanned_map {read} {seen} f b = record {
     covered = λ w r wW e l t.
         let (y, g) = f w r wW l t in g (read (h.ofp w)) (seen (h.ofp w) r) (b.covered w r wW e l y);

@@ -4,7 +4,7 @@ ghost use Rattle.std.specs.List.{range_with_len};
 ghost use Rattle.pools.specs.Sets.{numbers_below, without, given};
 ghost use Rattle.pools.specs.Orders.{front, rest, put_first};
 ghost use Rattle.pools.specs.Stacks.{stack_order};
-ghost use Rattle.std.proofs.Common.{rules, arith};
+ghost use Rattle.std.proofs.Common.{rules};
 
 use super::Stack;
 use crate::members::first_members;
@@ -18,13 +18,13 @@ impl Pool for Stack {
 
     ghost pick = { λ p. front (stack_order p) };
 
-    ghost picks = { first_of (Prim.search rules, Prim.grind (arith, Self.row.coded.inj)) };
+    ghost picks = { Prim.search rules };
 
-    ghost empty = { first_of (Prim.search rules, Prim.grind (arith, Self.row.coded.inj)) };
+    ghost empty = { Prim.search rules };
 
-    ghost inside = { first_of (Prim.search rules, Prim.grind (arith, Self.row.coded.inj)) };
+    ghost inside = { Prim.search rules };
 
-    ghost few = { first_of (Prim.search rules, Prim.grind (arith, Self.row.coded.inj)) };
+    ghost few = { Prim.search rules };
 
     fn new(settings: &Settings) -> Stack
         ensures full { (λ x. get_or result.members x false) ≡ numbers_below settings.now.records }
