@@ -8,12 +8,13 @@ use Rattle.terms.specs.declared.Standing.TheVariants.{Pooled, Fresh, Linked, Ret
 use Rattle.terms.proofs.Puts.{put_tells}
 use Rattle.memory.specs.declared.access.Write.{Write}
 use Rattle.memory.specs.Shared.{Shared, name_at, set_name}
-use Rattle.memory.specs.Standings.{once_named, named}
+use Rattle.terms.specs.Words.{once_named}
+use Rattle.memory.specs.Standings.{named}
 use Rattle.work.specs.Steps.{counts_of}
 use Rattle.machine.specs.Tables.{Sizes}
 use Rattle.protocol.specs.Words.{upd}
 use Rattle.protocol.specs.State.{State}
-use Rattle.protocol.specs.Shape.{link, linking}
+use Rattle.protocol.specs.Shape.{linking}
 use Rattle.protocol.specs.Effects.{after_write}
 use Rattle.protocol.proofs.Words.{upd_same, upd_other, linking_tells}
 use Rattle.laws.specs.Numbers.{link_number, spot_number, owner_of, owner_tells}
@@ -59,18 +60,12 @@ module _ (z : Sizes) (s : Shared) (f : ℕ → Standing) (a : State) (g : Agrees
   set_links (at.Link r x) (l, h) v i k m =
       one_cell num link_number 128 4 a.names s.links r.number x.index v l h i k (λ y. (omega arith, omega arith)) (g.links i k m)
 
-  once_link : (u : Standing) → link u ≡ once_named u
-  once_link Pooled = refl
-  once_link Fresh = refl
-  once_link Linked = refl
-  once_link Retired = refl
-
   set_standings : (v : Option Record) → ((r : ℕ) → num v ≡ Some r → r < 128) → (j : ℕ) → linking (num v) a.standing j ≡ named f v j
   unfolding linking
   set_standings None h j = g.standings j
   set_standings (Some r) h j = elim (put_tells 128 f r.number (once_named (f r.number)) j) [
-    | inl (e, y, _) ↦ upd_same a.standing r.number (link (a.standing r.number)) j y ∙ once_link (a.standing r.number) ∙ ap once_named (g.standings r.number) ∙ sym e
-    | inr (e, d) ↦ upd_other a.standing r.number (link (a.standing r.number)) j (λ y. d y (h r.number refl)) ∙ g.standings j ∙ sym e
+    | inl (e, y, _) ↦ upd_same a.standing r.number (once_named (a.standing r.number)) j y ∙ ap once_named (g.standings r.number) ∙ sym e
+    | inr (e, d) ↦ upd_other a.standing r.number (once_named (a.standing r.number)) j (λ y. d y (h r.number refl)) ∙ g.standings j ∙ sym e
   ]
 
   set_beyond : (v : Option Record) → ((r : ℕ) → num v ≡ Some r → r < 128) → (j : ℕ) → 128 ≤ j → linking (num v) a.standing j ≡ Pooled

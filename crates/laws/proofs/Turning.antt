@@ -5,7 +5,7 @@ use Rattle.terms.specs.declared.Record.{Record}
 use Rattle.terms.specs.declared.Spot.{Spot}
 use Rattle.terms.specs.declared.Standing.{Standing}
 use Rattle.terms.specs.declared.Standing.TheVariants.{Pooled, Fresh}
-use Rattle.terms.specs.Words.{same_name}
+use Rattle.terms.specs.Words.{same_name, once_named}
 use Rattle.terms.proofs.Puts.{put_tells}
 use Rattle.memory.specs.declared.access.Write.{Write}
 use Rattle.memory.specs.declared.access.WordAccess.{WordAccess}
@@ -15,7 +15,7 @@ use Rattle.memory.specs.declared.access.Access.TheVariants as access
 use Rattle.memory.specs.declared.access.Found.{Found}
 use Rattle.memory.specs.Found.{is_zero, flag_in}
 use Rattle.memory.specs.Shared.{Shared, name_at, set_name}
-use Rattle.memory.specs.Standings.{named, once_named, standing_word}
+use Rattle.memory.specs.Standings.{named, standing_word}
 use Rattle.work.specs.declared.work.AfterSwap.{AfterSwap}
 use Rattle.work.specs.declared.work.AfterSwap.TheVariants as swap
 use Rattle.work.specs.declared.work.AfterStore.TheVariants as store

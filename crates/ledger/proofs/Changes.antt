@@ -7,8 +7,9 @@ use Rattle.terms.specs.declared.Spot.{Spot}
 use Rattle.terms.specs.declared.Spot.TheVariants.{Root, Link}
 use Rattle.terms.specs.declared.Standing.{Standing}
 use Rattle.terms.specs.declared.Standing.TheVariants.{Pooled, Fresh, Linked, Retired}
+use Rattle.terms.specs.Words.{once_named}
 use Rattle.ledger.specs.Words.{same_record, same_station, changed}
-use Rattle.ledger.specs.Ledger.{Ledger, with_holds, once_named, naming, noting}
+use Rattle.ledger.specs.Ledger.{Ledger, with_holds, naming, noting}
 use Rattle.ledger.proofs.Words.{same_record_is, same_station_is, name_same, record_same, position_same, at_key, tells}
 
 -- What a changed function gives, for each kind of key.

@@ -14,7 +14,7 @@ use Rattle.terms.specs.declared.Operation.{Operation}
 use Rattle.terms.specs.declared.Operation.TheVariants.{New, Deref, Release, Cas, Store, Delete}
 use Rattle.terms.specs.declared.Outcome.{Outcome}
 use Rattle.terms.specs.declared.Outcome.TheVariants.{Found, Swapped, Done}
-use Rattle.ledger.specs.Words.{same_name}
+use Rattle.terms.specs.Words.{same_name}
 use Rattle.ledger.specs.Ledger.{Sizes, Ledger, following, HoldsName, Reaches, NonePooled, Unheld, Unnamed, NamesNothing, Settled, LeadsTo, OutOfUse, Makes, Acts, lead, clear, return}
 use Rattle.ledger.specs.Judge.{ActsCanBeJudged, SilentActsCanBeJudged}
 use Rattle.ledger.proofs.Words.{same_name_is, name_same}

@@ -7,7 +7,7 @@ use Rattle.terms.specs.declared.Operation.{Operation}
 use Rattle.terms.specs.declared.Operation.TheVariants.{New, Deref, Release, Cas, Store, Delete}
 use Rattle.terms.specs.declared.Outcome.{Outcome}
 use Rattle.terms.specs.declared.Outcome.TheVariants.{Found, Swapped, Done}
-use Rattle.ledger.specs.Words.{same_name}
+use Rattle.terms.specs.Words.{same_name}
 use Rattle.ledger.specs.Ledger.{Sizes, Ledger, LeadsTo, Acts, Makes}
 use Rattle.ledger.specs.Limits.{NewFindsWhatIsPooled, DerefFindsWhatIsNamed, LinksNeedHolds, ReleaseHasLimits, CasHasLimits, StoreHasLimits, DeleteHasLimits, LeadHasLimits, ReturnHasLimits, ActsAreSettled}
 use Rattle.ledger.proofs.Words.{same_name_is, name_same}

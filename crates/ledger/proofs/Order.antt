@@ -12,7 +12,8 @@ use Rattle.terms.specs.declared.Operation.{Operation}
 use Rattle.terms.specs.declared.Operation.TheVariants.{New, Deref, Release, Cas, Store, Delete}
 use Rattle.terms.specs.declared.Outcome.{Outcome}
 use Rattle.terms.specs.declared.Outcome.TheVariants.{Found, Swapped, Done}
-use Rattle.ledger.specs.Words.{same_record, same_spot, same_name, changed}
+use Rattle.terms.specs.Words.{same_name}
+use Rattle.ledger.specs.Words.{same_record, same_spot, changed}
 use Rattle.ledger.specs.Ledger.{Sizes, Ledger, opening, with_holds, with_standing, hold, let_go, naming, noting, write, retire, Inside, Holds, HoldsName, Reaches, Settled, OutOfUse, Makes, Acts, Silent, lead, clear, return, Permits, LeadsTo}
 use Rattle.ledger.specs.Explains.{Run, Phases, Explains, start, call, act, silent}
 use Rattle.ledger.specs.Laws.{Lawful, LedgersKeepOrder}

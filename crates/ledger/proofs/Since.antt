@@ -11,7 +11,8 @@ use Rattle.terms.specs.declared.Operation.{Operation}
 use Rattle.terms.specs.declared.Operation.TheVariants.{New, Deref, Release, Cas, Store, Delete}
 use Rattle.terms.specs.declared.Outcome.{Outcome}
 use Rattle.terms.specs.declared.Outcome.TheVariants.{Found, Swapped, Done}
-use Rattle.ledger.specs.Words.{same_record, same_spot, same_name}
+use Rattle.terms.specs.Words.{same_name}
+use Rattle.ledger.specs.Words.{same_record, same_spot}
 use Rattle.ledger.specs.Ledger.{Sizes, Ledger, with_standing, hold, let_go, write, retire, Makes, Acts, Silent, lead, clear, return, Permits}
 use Rattle.ledger.specs.Laws.{Lawful, Moves, acts, silently, SinceIsWhatWasNamed}
 use Rattle.ledger.proofs.Words.{same_record_is, same_name_is, spot_same, at_key, tells, retired≢linked}

@@ -8,7 +8,8 @@ use Rattle.terms.specs.declared.Spot.{Spot}
 use Rattle.terms.specs.declared.Spot.TheVariants.{Root, Link}
 use Rattle.terms.specs.declared.Standing.{Standing}
 use Rattle.terms.specs.declared.Standing.TheVariants.{Pooled, Fresh, Linked, Retired}
-use Rattle.ledger.specs.Words.{same_record, same_station, same_position, same_spot, same_name, changed}
+use Rattle.terms.specs.Words.{same_name}
+use Rattle.ledger.specs.Words.{same_record, same_station, same_position, same_spot, changed}
 
 pub same_record_is : (r s : Record) → same_record r s ≡ true → r ≡ s
 same_record_is r s h = ap (λ n. record { number = n }) (eqb-true r.number s.number h)

@@ -18,7 +18,8 @@ use Rattle.terms.specs.declared.Operation.{Operation}
 use Rattle.terms.specs.declared.Operation.TheVariants.{New, Deref, Release, Cas, Store, Delete}
 use Rattle.terms.specs.declared.Outcome.{Outcome}
 use Rattle.terms.specs.declared.Outcome.TheVariants.{Found, Swapped, Done}
-use Rattle.ledger.specs.Words.{same_record, same_station, same_position, same_spot, same_name, changed}
+use Rattle.terms.specs.Words.{same_name, once_named}
+use Rattle.ledger.specs.Words.{same_record, same_station, same_position, same_spot, changed}
 
 -- How much a table has of everything, and which position follows which: numbers below these are its stations,
 -- its records, its roots and the positions of a record's links.
@@ -76,14 +77,6 @@ hold l s (Some r) = with_holds l s r (l.holds s r + 1)
 -- Station s has one hold less of r.
 abbrev pub let_go : Ledger → Station → Record → Ledger
 let_go l s r = with_holds l s r (l.holds s r - 1)
-
--- A fresh record that comes to be named, by any link or root, is linked; a linked one stays linked, and a retired one
--- retired.
-abbrev pub once_named : Standing → Standing
-once_named Pooled = Pooled
-once_named Fresh = Linked
-once_named Linked = Linked
-once_named Retired = Retired
 
 abbrev pub naming : (Record → Standing) → Option Record → Record → Standing
 naming f None = f

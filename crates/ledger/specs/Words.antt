@@ -24,13 +24,6 @@ same_spot (Root g) (Link s y) = false
 same_spot (Link r x) (Root h) = false
 same_spot (Link r x) (Link s y) = same_record r s && same_position x y
 
--- Whether two names are the same: both none, or one record.
-abbrev pub same_name : Option Record → Option Record → Bool
-same_name None None = true
-same_name None (Some s) = false
-same_name (Some r) None = false
-same_name (Some r) (Some s) = same_record r s
-
 -- f with the value v at the key k and as it was elsewhere.
 abbrev pub changed : {K V : Type 0} → (K → K → Bool) → (K → V) → K → V → K → V
 changed same f k v j = cond (same j k) v (f j)

@@ -4,7 +4,7 @@ use Rattle.std.specs.Prelude.{ℕ, cond, Some, None, Option}
 use Rattle.terms.specs.declared.Record.{Record}
 use Rattle.terms.specs.declared.Standing.{Standing}
 use Rattle.terms.specs.declared.Standing.TheVariants as is
-use Rattle.terms.specs.Words.{reads, put}
+use Rattle.terms.specs.Words.{reads, put, once_named}
 use Rattle.memory.specs.declared.access.WordAccess.{WordAccess}
 use Rattle.memory.specs.declared.access.WordAccess.TheVariants as a
 use Rattle.memory.specs.declared.access.Access.{Access}
@@ -19,13 +19,6 @@ standings t = reads is.Pooled t.standings
 
 abbrev pub set_standing : (ℕ → Standing) → ℕ → Standing → ℕ → Standing
 set_standing f r v = put 128 f r v
-
--- a fresh record that a spot names becomes linked; linked and retired ones stay so
-abbrev pub once_named : Standing → Standing
-once_named is.Pooled = is.Pooled
-once_named is.Fresh = is.Linked
-once_named is.Linked = is.Linked
-once_named is.Retired = is.Retired
 
 -- a name is written into a spot
 abbrev pub named : (ℕ → Standing) → Option Record → ℕ → Standing

@@ -3,7 +3,8 @@ use Rattle.std.proofs.Common.{◌≡◌, ℕ, zero, suc, ◌+◌, ◌<◌, ◌�
 use Rattle.std.proofs.lemmas.Bool.{eq-eqb, ne_eqb, cond-true, cond-false, cases_eq}
 use Rattle.terms.specs.declared.Standing.{Standing}
 use Rattle.protocol.specs.Words.{upd, Names, once_if, times, Nowhere}
-use Rattle.protocol.specs.Shape.{link, linking, seeing}
+use Rattle.terms.specs.Words.{once_named}
+use Rattle.protocol.specs.Shape.{linking, seeing}
 
 pub upd_same : {A : Type 0} (f : ℕ → A) (i : ℕ) (v : A) (j : ℕ) → i ≡ j → upd f i v j ≡ v
 unfolding upd
@@ -23,11 +24,11 @@ names_or None r = inr (λ e. grind arith)
 names_or (Some a) r = elim (cases_eq a r) [ inl e ↦ inl (ap Some e) | inr d ↦ inr (λ e. grind arith) ]
 
 -- The same of the standings after a write.
-pub linking_tells : (n : Option ℕ) (f : ℕ → Standing) (r : ℕ) → ((linking n f r ≡ link (f r)) × (n ≡ Some r)) ⊎ ((linking n f r ≡ f r) × (n ≡ Some r → ⊥))
+pub linking_tells : (n : Option ℕ) (f : ℕ → Standing) (r : ℕ) → ((linking n f r ≡ once_named (f r)) × (n ≡ Some r)) ⊎ ((linking n f r ≡ f r) × (n ≡ Some r → ⊥))
 unfolding linking
 linking_tells None f r = inr (refl, λ e. grind arith)
-linking_tells (Some a) f r = elim (upd_tells f a (link (f a)) r) [
-  | inl (x, e) ↦ inl (x ∙ ap (λ i. link (f i)) e, ap Some e)
+linking_tells (Some a) f r = elim (upd_tells f a (once_named (f a)) r) [
+  | inl (x, e) ↦ inl (x ∙ ap (λ i. once_named (f i)) e, ap Some e)
   | inr (x, d) ↦ inr (x, λ e. grind arith)
 ]
 

@@ -2,6 +2,7 @@
 use Rattle.std.specs.Prelude.{◌≡◌, ℕ, ◌<◌, Bool, true, false, ◌⊎◌, Some, None, Option}
 use Rattle.terms.specs.declared.Standing.{Standing}
 use Rattle.terms.specs.declared.Standing.TheVariants.{Pooled, Fresh, Linked, Retired}
+use Rattle.terms.specs.Words.{once_named}
 use Rattle.protocol.specs.Words.{Names, upd}
 use Rattle.protocol.specs.State.{Phase, resting, marking, passed, gone, emptied, giving}
 
@@ -24,17 +25,10 @@ pub record Shape : Type 0 where
 abbrev pub Used : Standing → Type 0
 Used a = (a ≡ Linked) ⊎ (a ≡ Retired)
 
--- A record's standing once a spot names it: a fresh one becomes linked.
-abbrev pub link : Standing → Standing
-link Pooled = Pooled
-link Fresh = Linked
-link Linked = Linked
-link Retired = Retired
-
 -- The standings once the name n is written into a spot.
 unfoldable pub linking : Option ℕ → (ℕ → Standing) → ℕ → Standing
 linking None f = f
-linking (Some r) f = upd f r (link (f r))
+linking (Some r) f = upd f r (once_named (f r))
 
 -- What a scan has found in slots, once it read the name v.
 unfoldable pub seeing : Option ℕ → (ℕ → Bool) → ℕ → Bool

@@ -3,7 +3,8 @@ use Rattle.std.specs.Prelude.{◌≡◌, ℕ, ◌+◌, ◌<◌, ◌≤◌, true,
 use Rattle.terms.specs.declared.Standing.{Standing}
 use Rattle.terms.specs.declared.Standing.TheVariants.{Pooled, Fresh, Linked, Retired}
 use Rattle.protocol.specs.State.{State, resting, giving}
-use Rattle.protocol.specs.Shape.{Shape, Used, Holds, link}
+use Rattle.terms.specs.Words.{once_named}
+use Rattle.protocol.specs.Shape.{Shape, Used, Holds}
 use Rattle.protocol.specs.Invariant.{Inv}
 use Rattle.protocol.specs.Steps.{Step, Moves}
 use Rattle.protocol.specs.Own.{Untouched}
@@ -111,7 +112,7 @@ MarkedRetired = (h : Shape) (s : State) → Inv h s → (p r : ℕ) → Holds h 
 pub data Change (h : Shape) (s : State) (p : ℕ) (t : State) (r : ℕ) : Type 0 where
   same : t.standing r ≡ s.standing r → Change h s p t r
   taken : s.standing r ≡ Pooled → t.standing r ≡ Fresh → Change h s p t r
-  linked : Holds h s.held p r → t.standing r ≡ link (s.standing r) → Change h s p t r
+  linked : Holds h s.held p r → t.standing r ≡ once_named (s.standing r) → Change h s p t r
   withdrawn : Holds h s.held p r → t.standing r ≡ Retired → Change h s p t r
   given : (w : ℕ) → w < h.places → h.ofp w ≡ p → s.lists w ≡ Some r → s.phase w ≡ giving → t.standing r ≡ Pooled → Change h s p t r
 

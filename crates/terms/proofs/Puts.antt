@@ -2,7 +2,7 @@
 use Rattle.std.proofs.Common.{◌≡◌, ℕ, zero, suc, ◌<◌, ◌≤◌, ◌⊎◌, List, [], length, get_or, set, replicate, sym, refl, ap, ◌∙◌, inl, inr, arith, get_or-set_other, get_or-set_same}
 use mathlib.Core.Path.{fun_ext}
 use Rattle.std.proofs.lemmas.Bool.{eq-eqb, ne_eqb, cases_eq, cases_lt, lt-ltb, le-ltb, cond-true, cond-false, and_from, and_left, and_right}
-use Rattle.std.proofs.lemmas.List.{set_past, get_or_default}
+use Rattle.std.proofs.lemmas.List.{set_past, get_or_default, get_or_past}
 use Rattle.terms.specs.Words.{reads, cells, put}
 
 -- Both ways at once, to be taken apart.
@@ -65,3 +65,11 @@ cells_replicate {A = A} v h row e = fun_ext (λ i. go h i)
     go zero i = fun_ext (λ x. refl)
     go (suc h) zero = e
     go (suc h) (suc i) = go h i
+
+-- A row read whole, past the last one as a row of one value, reads as the row.
+pub row_read : {A : Type 0} (w : ℕ) (rows : List (List A)) (i : ℕ) (v : A) → ◌≡◌ {A = ℕ → A} (reads v (reads (replicate w v) rows i)) (cells v rows i)
+unfolding reads cells
+row_read {A = A} w rows i v = elim (cases_lt i (length rows)) [
+  | inl h ↦ ap (λ (l : List A). reads v l) (get_or_default rows i _ [] h)
+  | inr h ↦ ap (λ (l : List A). reads v l) (get_or_past rows i (replicate w v) h) ∙ reads_replicate v w ∙ sym (ap (λ (l : List A). reads v l) (get_or_past rows i [] h))
+]

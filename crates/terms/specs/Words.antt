@@ -1,7 +1,9 @@
 -- Words that the definitions of the machine share: functions from numbers with one point
--- changed, the lowest number that passes a test, and equality of names.
+-- changed, the lowest number that passes a test, equality of names, and what a name makes of a standing.
 use Rattle.std.specs.Prelude.{ℕ, zero, suc, Bool, true, false, cond, ◌&&◌, List, [], Some, None, Option, ◌==◌, nat_lt, slice_index_or}
 use Rattle.terms.specs.declared.Record.{Record}
+use Rattle.terms.specs.declared.Standing.{Standing}
+use Rattle.terms.specs.declared.Standing.TheVariants.{Pooled, Fresh, Linked, Retired}
 
 -- What a list holds at each index, and d past its end.
 unfoldable pub reads : {A : Type 0} → A → List A → ℕ → A
@@ -39,3 +41,10 @@ same_name (Some a) (Some b) = a.number == b.number
 abbrev pub is_none : Option Record → Bool
 is_none None = true
 is_none (Some r) = false
+
+-- A record's standing once a spot names it: a fresh one becomes linked, the others stay so.
+abbrev pub once_named : Standing → Standing
+once_named Pooled = Pooled
+once_named Fresh = Linked
+once_named Linked = Linked
+once_named Retired = Retired

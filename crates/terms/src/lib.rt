@@ -2,11 +2,10 @@
 // cannot stand where a place is meant.
 #![tactic(auto)]
 
-pub mod names;
 pub mod tables;
 
 // A record of the table.
-#[derive(Clone, Copy, PartialEq, Eq)]
+#[derive(Clone, Copy, PartialEq, Eq, PartialOrd, Ord)]
 pub struct Record {
     pub number: u8,
 }

@@ -5,8 +5,7 @@ ghost use Rattle.terms.specs.Words.{reads, cells, put, put_in};
 pub fn word<T: Copy>(words: &[T], i: u8, default: T) -> T
     ensures { result ≡ reads default words.now i }
 {
-    let at = i as usize;
-    if at < words.len() { words[at] } else { default }
+    words.get(i as usize).copied().unwrap_or(default)
 }
 
 pub fn set_word<T: Drop>(words: &mut [T], i: u8, v: T)
@@ -20,28 +19,17 @@ pub fn set_word<T: Drop>(words: &mut [T], i: u8, v: T)
 pub fn cell<T: Copy, const W: usize>(rows: &[[T; W]], i: u8, x: u8, default: T) -> T
     ensures { result ≡ cells default rows.now i x }
 {
-    if (i as usize) < rows.len() {
-        word(&rows[i as usize], x, default)
-    } else {
-        default
+    match rows.get(i as usize) {
+        Some(row) => word(row, x, default),
+        None => default,
     }
 }
 
-fn with<T: Copy, const W: usize>(row: [T; W], x: u8, v: T) -> [T; W]
-    ensures { (d : T) → ◌≡◌ {A = ℕ → T} (reads d result) (put W (reads d row) x v) }
-{
-    let mut row = row;
-    if (x as usize) < W {
-        row[x as usize] = v;
-    }
-    row
-}
-
-pub fn set_cell<T: Copy, const W: usize>(rows: &mut [[T; W]], i: u8, x: u8, v: T)
+pub fn set_cell<T: Drop, const W: usize>(rows: &mut [[T; W]], i: u8, x: u8, v: T)
     ensures { (d : T) → ◌≡◌ {A = ℕ → ℕ → T} (cells d rows.new) (put_in (length rows.old) W (cells d rows.old) i x v) }
 {
     if (i as usize) < rows.len() {
-        rows[i as usize] = with(rows[i as usize], x, v);
+        set_word(&mut rows[i as usize], x, v);
     }
 }
 
@@ -49,12 +37,7 @@ pub fn set_cell<T: Copy, const W: usize>(rows: &mut [[T; W]], i: u8, x: u8, v: T
 pub fn row<T: Copy, const W: usize>(rows: &[[T; W]], i: u8, default: T) -> [T; W]
     ensures { ◌≡◌ {A = ℕ → T} (reads default result) (cells default rows.now i) }
 {
-    let at = i as usize;
-    if at < rows.len() {
-        rows[at]
-    } else {
-        [default; W]
-    }
+    word(rows, i, [default; W])
 }
 
 // As many of one value as there are.

@@ -1,15 +1,13 @@
-use Rattle.std.proofs.Common.{[], get_or, sym, ap, ◌∙◌}
-use Rattle.std.proofs.lemmas.List.{get_or_past, get_or_default}
+use Rattle.std.proofs.Common.{rules}
+use Rattle.std.proofs.lemmas.Option.{get_or_from_slice_get}
+use Rattle.std.proofs.lemmas.List.{get_or_past}
 use Rattle.terms.specs.Words.{reads, cells}
 use Rattle.terms.proofs.tables.cell.Goals as goal
 
-pub returns-then-i-rows : goal.returns-then-i-rows
+pub returns-in-Some : goal.returns-in-Some
 unfolding reads cells
-returns-then-i-rows g c =
-    c.word.ensures
-    ∙ ap (λ l. get_or l c.args.x c.args.default) (c.index-rows-i.is ∙ get_or_default c.args.rows.now c.args.i _ [] c.if-i-rows.true)
+returns-in-Some g c = search (rules, get_or_from_slice_get)
 
-pub returns-else-i-rows : goal.returns-else-i-rows
+pub returns-in-None : goal.returns-in-None
 unfolding reads cells
-returns-else-i-rows g c =
-    sym (ap (λ l. get_or l c.args.x c.args.default) (get_or_past c.args.rows.now c.args.i [] c.if-i-rows.false))
+returns-in-None g c = search (rules, get_or_past)
