@@ -6,7 +6,6 @@ ghost use Rattle.memory.specs.Perform.{change_of, found_of, after_of};
 
 use crate::access::{Found, WordAccess, Write};
 use crate::memory::*;
-use terms::names::same;
 use terms::tables::*;
 use terms::{Name, Record, Spot, Station};
 
@@ -40,7 +39,7 @@ impl Memory {
         ensures answer { result ≡ swap_answer (view self.old) spot old }
         ensures after { view self.new ≡ swapped (view self.old) spot old new }
     {
-        let writes = same(self.name_at(spot), old);
+        let writes = self.name_at(spot) == old;
         if writes {
             self.set_name(spot, new);
         }
@@ -57,7 +56,7 @@ fn lowest_naming(slots: &[Name; SLOTS], r: Record) -> u8
         if i >= 8 {
             break i;
         }
-        if same(word(slots, i, None), Some(r)) {
+        if word(slots, i, None) == Some(r) {
             break i;
         }
         i += 1;

@@ -2,7 +2,8 @@
 ghost use Rattle.std.specs.Prelude.{◌≡◌, ℕ};
 ghost use Rattle.terms.specs.declared.Standing.{Standing as Standingt};
 ghost use Rattle.terms.specs.declared.Standing.TheVariants.{Pooled as pooled, Retired as retired};
-ghost use Rattle.memory.specs.Standings.{standings, set_standing, once_named, named, taken, standing_word, standing_after};
+ghost use Rattle.terms.specs.Words.{once_named};
+ghost use Rattle.memory.specs.Standings.{standings, set_standing, named, taken, standing_word, standing_after};
 
 use crate::access::{Access, Found, WordAccess};
 use crate::standings::Standings;

@@ -5,7 +5,7 @@
 pub mod tables;
 
 // A record of the table.
-#[derive(Clone, Copy, PartialEq, Eq, PartialOrd, Ord)]
+#[derive(Clone, Copy, Default, PartialEq, Eq, PartialOrd, Ord)]
 pub struct Record {
     pub number: u8,
 }
@@ -23,7 +23,7 @@ pub struct Slot {
 }
 
 // One of the places in which a station lists the records that it withdrew.
-#[derive(Clone, Copy, PartialEq, Eq)]
+#[derive(Clone, Copy, Default, PartialEq, Eq)]
 pub struct Place {
     pub index: u8,
 }

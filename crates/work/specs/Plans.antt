@@ -1,5 +1,7 @@
 -- What a busy station is in the middle of, what it sees, what it keeps, and the one access that it makes next.
-use Rattle.std.specs.Prelude.{ℕ, zero, suc, Bool, true, false, cond, List, [], ◌∷◌, ◌++◌, length, take, Some, None, Option, nat_lt, slice_index_or}
+use Rattle.std.specs.Prelude.{ℕ, zero, suc, ◌+◌, Bool, true, false, cond, List, [], ◌∷◌, ◌++◌, length, Some, None, Option, nat_lt, slice_index_or}
+use Rattle.std.specs.declared.ops.ControlFlow.{ControlFlow}
+use Rattle.std.specs.declared.ops.ControlFlow.TheVariants.{Continue, Break}
 use Rattle.terms.specs.declared.Record.{Record}
 use Rattle.terms.specs.declared.Station.{Station}
 use Rattle.terms.specs.declared.Slot.{Slot}
@@ -16,10 +18,8 @@ use Rattle.work.specs.declared.work.Reached.{Reached}
 use Rattle.work.specs.declared.work.Point.{Point}
 use Rattle.work.specs.declared.work.Point.TheVariants.{End, Take, Look, LookAgain, Verify, Swap, Save, Overwrite, AskDeleted, AskPlace, AskDone, AskPlaceAgain, CountFirst, CountAgain, AskSlot, CountSecond, AskTrace, AskClaims, AskLink, Give}
 use Rattle.work.specs.declared.work.Owed.{Owed}
-use Rattle.work.specs.declared.work.Owed.TheVariants.{Nothing, One, Two, Three, Four, Five}
 use Rattle.work.specs.declared.work.Work.{Work}
-use Rattle.work.specs.declared.work.Next.{Next}
-use Rattle.work.specs.declared.work.Next.TheVariants.{Busy, Ended}
+use Rattle.work.specs.declared.known.Known.{Known}
 use Rattle.work.specs.declared.notes.Entries.{Entries}
 use Rattle.work.specs.declared.notes.Seen.{Seen}
 use Rattle.work.specs.declared.notes.Notes as code
@@ -48,13 +48,23 @@ pub record Plan : Type 0 where
 abbrev pub plan : List Write → Point → Plan
 plan ws p = record { owed = ws; point = p }
 
+-- the writes that are there, in order
+abbrev pub present : List (Option Write) → List Write
+present [] = []
+present (None ∷ os) = present os
+present (Some w ∷ os) = w ∷ present os
+
 abbrev pub writes : Owed → List Write
-writes Nothing = []
-writes (One a) = a ∷ []
-writes (Two a b) = a ∷ b ∷ []
-writes (Three a b c) = a ∷ b ∷ c ∷ []
-writes (Four a b c d) = a ∷ b ∷ c ∷ d ∷ []
-writes (Five a b c d e) = a ∷ b ∷ c ∷ d ∷ e ∷ []
+writes o = present o.writes
+
+-- the write that is made next, and those after it
+abbrev pub first_write : List Write → Option Write
+first_write [] = None
+first_write (w ∷ ws) = Some w
+
+abbrev pub later_writes : List Write → List Write
+later_writes [] = []
+later_writes (w ∷ ws) = ws
 
 abbrev pub plan_of : Work → Plan
 plan_of w = plan (writes w.owed) w.point
@@ -64,9 +74,9 @@ pub data Going : Type 0 where
   busy : Plan → Going
   ended : Outcome → Going
 
-abbrev pub going_of : Next → Going
-going_of (Busy w) = busy (plan_of w)
-going_of (Ended o) = ended o
+abbrev pub going_of : ControlFlow Outcome Work → Going
+going_of (Continue w) = busy (plan_of w)
+going_of (Break o) = ended o
 
 -- what a station may look at without an access
 pub record Sight : Type 0 where
@@ -89,6 +99,17 @@ sight_of s = record {
   slots = reads None s.slots;
 }
 
+-- The next position of a record; none behind the last one.
+abbrev pub next_position : Sight → Position → Option Position
+next_position s x = cond (nat_lt (x.index + 1) s.positions) (Some (position (x.index + 1))) None
+
+-- What comes after an index where each station has a row of so many: the next of the row, or the first of the next
+-- station's; none behind the last one of all.
+abbrev pub after_in_rows : Sight → Station → ℕ → ℕ → Option (Station × ℕ)
+after_in_rows s z i each =
+    cond (nat_lt (i + 1) each) (Some (z, i + 1))
+    (cond (nat_lt (z.number + 1) s.stations) (Some (station (z.number + 1), 0)) None)
+
 -- the lowest empty slot, or their number where none is empty
 abbrev pub free_slot : Sight → Slot
 free_slot s = slot (lowest (λ i. is_none (s.slots i)) s.each)
@@ -100,7 +121,7 @@ pub record Notes : Type 0 where
   pub seen : ℕ → Bool
 
 abbrev pub entries_of : Entries → List Entry
-entries_of l = take l.count l.entries
+entries_of l = l.entries.items
 
 abbrev pub seen_of : Seen → ℕ → Bool
 seen_of s = reads false s.marks
@@ -124,12 +145,16 @@ abbrev pub kept_too : List Entry → Option Entry → List Entry
 kept_too es None = es
 kept_too es (Some e) = pushed es e
 
-abbrev pub noted : Notes → Note → Notes
-noted n note.Nothing = n
-noted n (note.Push e) = record { list = pushed n.list e; kept = n.kept; seen = n.seen }
-noted n (note.See v) = record { list = n.list; kept = n.kept; seen = saw n.seen v }
-noted n (note.Keep e) = record { list = n.list; kept = pushed n.kept e; seen = n.seen }
-noted n (note.Close k) = record { list = kept_too n.kept k; kept = []; seen = λ _. false }
+-- the notes after a change, and after one or none
+abbrev pub made : Notes → Note → Notes
+made n (note.Push e) = record { list = pushed n.list e; kept = n.kept; seen = n.seen }
+made n (note.See v) = record { list = n.list; kept = n.kept; seen = saw n.seen v }
+made n (note.Keep e) = record { list = n.list; kept = pushed n.kept e; seen = n.seen }
+made n (note.Close k) = record { list = kept_too n.kept k; kept = []; seen = λ _. false }
+
+abbrev pub noted : Notes → Option Note → Notes
+noted n None = n
+noted n (Some x) = made n x
 
 -- The entry that a walk from the head comes to where n are left, and how many come after it.
 abbrev pub reached : List Entry → ℕ → Option Reached
@@ -139,6 +164,13 @@ reached es (suc m) = cond (nat_lt m (length es)) (Some (record { entry = slice_i
 -- the head of a list
 abbrev pub head_of : List Entry → Option Reached
 head_of es = reached es (length es)
+
+-- what a station sees, and what it has noted
+abbrev pub seen_by : Known → Sight
+seen_by k = sight_of k.sight.now
+
+abbrev pub noted_by : Known → Notes
+noted_by k = notes_of k.notes.now
 
 -- the access that a decision makes; none at an end
 abbrev pub access_at : Point → Option Access

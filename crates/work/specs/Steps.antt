@@ -28,21 +28,21 @@ use Rattle.work.specs.declared.work.Point.{Point}
 use Rattle.work.specs.declared.work.Point.TheVariants.{End, Take, Look, LookAgain, Verify, Swap, Save, Overwrite, AskDeleted, AskPlace, AskDone, AskPlaceAgain, CountFirst, CountAgain, AskSlot, CountSecond, AskTrace, AskClaims, AskLink, Give}
 use Rattle.work.specs.declared.notes.Note.{Note}
 use Rattle.work.specs.declared.turn.Turn as code
-use Rattle.work.specs.Plans.{Plan, plan, plan_of, Going, busy, ended, Sight, Notes, free_slot, station, slot, place, position, noted, reached, head_of}
+use Rattle.work.specs.Plans.{Plan, plan, plan_of, Going, busy, ended, Sight, Notes, free_slot, station, slot, place, position, made, noted, reached, head_of}
 
 -- What a decision comes to: a plan, and a change of the station's notes.
 pub record Turn : Type 0 where
   pub does : Plan
-  pub note : Note
+  pub note : Option Note
 
-abbrev pub turn : Plan → Note → Turn
+abbrev pub turn : Plan → Option Note → Turn
 turn p n = record { does = p; note = n }
 
 abbrev pub turn_of : code.Turn → Turn
 turn_of t = turn (plan_of t.work) t.note
 
 abbrev pub quiet : Plan → Turn
-quiet p = turn p Note.Nothing
+quiet p = turn p None
 
 -- NEW ----------------------------------------------------------------------------------------------------
 
@@ -173,12 +173,12 @@ count_kept n (Some e) = length n.kept + 1
 abbrev pub scan_end : Sight → Notes → Option Entry → Point
 scan_end s n k = cond (count_kept n k == s.t1) (AskPlace (station 0) (place 0)) (End Outcome.Done)
 
-abbrev pub keep_note : Option Entry → Note
-keep_note None = Note.Nothing
-keep_note (Some e) = Note.Keep e
+abbrev pub keep_note : Option Entry → Option Note
+keep_note None = None
+keep_note (Some e) = Some (Note.Keep e)
 
 abbrev pub second_at : List Write → Option Entry → Sight → Notes → Option Reached → Turn
-second_at ws k s n None = turn (plan ws (scan_end s n k)) (Note.Close k)
+second_at ws k s n None = turn (plan ws (scan_end s n k)) (Some (Note.Close k))
 second_at ws k s n (Some e) = turn (plan ws (CountSecond e)) (keep_note k)
 
 -- The walk goes on behind an entry that is kept (k) or given back.
@@ -254,7 +254,7 @@ decide_of (AskDone z i r) f s n = quiet (done_of z i r (flag_in f) s n)
 decide_of (AskPlaceAgain z i r) f s n = quiet (again_of z i r (name_in f) s n)
 decide_of (CountFirst e) f s n = quiet (counted_first e (zero_in f) n)
 decide_of (CountAgain e) f s n = quiet (counted_again e (zero_in f) n)
-decide_of (AskSlot z i) f s n = turn (plan [] (next_slot z i s n)) (Note.See (name_in f))
+decide_of (AskSlot z i) f s n = turn (plan [] (next_slot z i s n)) (Some (Note.See (name_in f)))
 decide_of (CountSecond e) f s n = counted_second e (zero_in f) s n
 decide_of (AskTrace e) f s n = traced_of e (flag_in f) s n
 decide_of (AskClaims e) f s n = quiet (claims_of e (zero_in f))
@@ -296,9 +296,9 @@ abbrev pub advanced : List Write → Point → Found → Sight → Notes → Goi
 advanced [] p f s n = settle (decide_of p f s n).does
 advanced (w ∷ ws) p f s n = settled ws p
 
-abbrev pub note_made : List Write → Point → Found → Sight → Notes → Note
+abbrev pub note_made : List Write → Point → Found → Sight → Notes → Option Note
 note_made [] p f s n = (decide_of p f s n).note
-note_made (w ∷ ws) p f s n = Note.Nothing
+note_made (w ∷ ws) p f s n = None
 
 abbrev pub advance_of : Plan → Found → Sight → Notes → Going
 advance_of p f s n = advanced p.owed p.point f s n
@@ -316,8 +316,8 @@ free_place s places = place (lowest (λ i. is_none (places i)) s.t1)
 abbrev pub delete_of : Record → Place → Sight → Notes → Turn
 delete_of r i s n =
     turn (plan (Write.Release r ∷ Write.SetDeleted r ∷ Write.ClearTraceOfListed r ∷ Write.ClearDone i ∷ Write.FillPlace i r ∷ [])
-    (round_of s (noted n (Note.Push (record { place = i; node = r })))))
-    (Note.Push (record { place = i; node = r }))
+    (round_of s (made n (Note.Push (record { place = i; node = r })))))
+    (Some (Note.Push (record { place = i; node = r })))
 
 abbrev pub begin_of : Operation → Sight → (ℕ → Option Record) → Notes → Turn
 begin_of op.New s f n = quiet (plan [] Take)

@@ -2,20 +2,14 @@
 ghost use Rattle.std.specs.Prelude.{◌≡◌, Some};
 ghost use Rattle.work.specs.Plans.{access_at, access_of, plan_of};
 
-use crate::work::{Owed, Point, Work};
-use memory::access::{Access, WordAccess, Write};
+use crate::work::{Point, Work};
+use memory::access::{Access, WordAccess};
 use terms::Spot;
 
 fn word(access: WordAccess) -> Option<Access>
     ensures { result ≡ Some (Access.Word access) }
 {
     Some(Access::Word(access))
-}
-
-fn change(write: Write) -> Option<Access>
-    ensures { result ≡ Some (Access.Word (WordAccess.Change write)) }
-{
-    word(WordAccess::Change(write))
 }
 
 impl Point {
@@ -52,13 +46,9 @@ impl Work {
     pub fn access(self) -> Option<Access>
         ensures { result ≡ access_of (plan_of self) }
     {
-        match self.owed {
-            Owed::Nothing => self.point.access(),
-            Owed::One(write) => change(write),
-            Owed::Two(write, _) => change(write),
-            Owed::Three(write, _, _) => change(write),
-            Owed::Four(write, _, _, _) => change(write),
-            Owed::Five(write, _, _, _, _) => change(write),
+        match self.owed.first() {
+            None => self.point.access(),
+            Some(write) => word(WordAccess::Change(write)),
         }
     }
 }

@@ -4,7 +4,7 @@ ghost use Rattle.terms.specs.Words.{reads};
 ghost use Rattle.work.specs.Plans.{plan_of, sight_of, notes_of, noted};
 ghost use Rattle.work.specs.Steps.{begin_of, delete_of, free_place};
 
-use crate::clean;
+use crate::known::Known;
 use crate::notes::{Note, Notes};
 use crate::parts::lowest_empty;
 use crate::sight::Sight;
@@ -28,16 +28,10 @@ fn delete(r: Record, place: Place, sight: &Sight, notes: &mut Notes) -> Work
     ensures work { plan_of result ≡ (delete_of r place (sight_of sight.now) (notes_of notes.old)).does }
     ensures notes { notes_of notes.new ≡ noted (notes_of notes.old) (delete_of r place (sight_of sight.now) (notes_of notes.old)).note }
 {
-    notes.note(Note::Push(Entry { place, node: r }));
+    notes.note(Some(Note::Push(Entry { place, node: r })));
     Work {
-        owed: Owed::Five(
-            Write::Release(r),
-            Write::SetDeleted(r),
-            Write::ClearTraceOfListed(r),
-            Write::ClearDone(place),
-            Write::FillPlace(place, r),
-        ),
-        point: clean::round(sight, notes),
+        owed: Owed::deleted(r, place),
+        point: Known { sight, notes }.round(),
     }
 }
 
@@ -51,7 +45,7 @@ impl Work {
             Operation::New => Work::only(Point::Take),
             Operation::Deref(spot) => Work::only(Point::Look(spot, AfterLook::Answer)),
             Operation::Release(r) => Work {
-                owed: Owed::One(Write::Release(r)),
+                owed: Owed::one(Write::Release(r)),
                 point: Point::End(Outcome::Done),
             },
             Operation::Cas(spot, old, new) => Work::only(Point::Swap(

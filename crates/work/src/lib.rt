@@ -5,6 +5,7 @@ pub mod access;
 pub mod advance;
 pub mod begin;
 mod clean;
+mod known;
 pub mod note;
 pub mod notes;
 mod owed;

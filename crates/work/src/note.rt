@@ -1,9 +1,10 @@
 // A station's notes, and a change of them.
 ghost use Rattle.std.specs.Prelude.{◌≡◌};
-ghost use Rattle.work.specs.Plans.{entries_of, notes_of, pushed, kept_too, noted, no_notes};
+ghost use Rattle.work.specs.Plans.{entries_of, notes_of, kept_too, made, noted, no_notes};
 
 use crate::notes::*;
 use crate::work::Entry;
+use std::mem;
 
 impl Entries {
     // The entry, if there is one, becomes the head.
@@ -30,26 +31,30 @@ impl Notes {
 
     // What a SCAN kept, perhaps with one entry more, is the list now.
     fn close(&mut self, last: Option<Entry>)
-        ensures { notes_of self.new ≡ noted (notes_of self.old) (Note.Close last) }
+        ensures { notes_of self.new ≡ made (notes_of self.old) (Note.Close last) }
     {
-        let mut list = self.kept;
-        list.push_if(last);
-        *self = Notes {
-            list,
-            kept: Entries::empty(),
-            seen: Seen::empty(),
-        };
+        self.list = mem::replace(&mut self.kept, Entries::empty());
+        self.list.push_if(last);
+        self.seen = Seen::empty();
     }
 
-    pub(crate) fn note(&mut self, note: Note)
-        ensures { notes_of self.new ≡ noted (notes_of self.old) note }
+    fn make(&mut self, note: Note)
+        ensures { notes_of self.new ≡ made (notes_of self.old) note }
     {
         match note {
-            Note::Nothing => {}
             Note::Push(entry) => self.list.push(entry),
             Note::See(name) => self.seen.see(name),
             Note::Keep(entry) => self.kept.push(entry),
             Note::Close(last) => self.close(last),
+        }
+    }
+
+    // The change, if there is one.
+    pub(crate) fn note(&mut self, note: Option<Note>)
+        ensures { notes_of self.new ≡ noted (notes_of self.old) note }
+    {
+        if let Some(note) = note {
+            self.make(note);
         }
     }
 }

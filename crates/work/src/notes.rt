@@ -1,7 +1,6 @@
 // What a station keeps for itself: its list, and what a SCAN collects.
-ghost use Rattle.std.specs.Prelude.{◌≡◌, ◌≤◌, length};
-
 use crate::work::Entry;
+use arrayvec::ArrayVec;
 use terms::Name;
 
 pub const ENTRIES: usize = 64;
@@ -9,12 +8,9 @@ pub const ENTRIES: usize = 64;
 pub const SEEN: usize = 128;
 
 // Entries in the order in which they came; the last is the head of the list.
-#[derive(Clone, Copy)]
+#[derive(Drop)]
 pub struct Entries {
-    pub(crate) entries: [Entry; ENTRIES],
-    pub(crate) count: u8,
-    ghost room: { length entries ≡ 64 },
-    ghost few: { count ≤ 64 },
+    pub(crate) entries: ArrayVec<Entry, ENTRIES>,
 }
 
 // The records that a SCAN saw in slots.
@@ -23,7 +19,7 @@ pub struct Seen {
     pub(crate) marks: [bool; SEEN],
 }
 
-#[derive(Clone, Copy)]
+#[derive(Drop)]
 pub struct Notes {
     // The records withdrawn and not given back yet.
     pub(crate) list: Entries,
@@ -35,7 +31,6 @@ pub struct Notes {
 // A change of a station's notes.
 #[derive(Clone, Copy)]
 pub enum Note {
-    Nothing,
     // A withdrawn record becomes the head of the list.
     Push(Entry),
     // SC11 found this in a slot.

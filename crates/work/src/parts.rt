@@ -1,30 +1,28 @@
 // Small parts of a station's private work: names, numbers, and its notes.
 ghost use Rattle.std.specs.Prelude.{◌≡◌, ℕ, ◌+◌, ◌<◌, ◌≤◌, Bool, false, [], length, Some, None, MatchOption};
 ghost use Rattle.terms.specs.Words.{reads, lowest, is_none};
-ghost use Rattle.work.specs.Plans.{entries_of, notes_of, seen_of, pushed, saw, kept_too, noted, no_notes, reached, head_of, free_slot, sight_of, position};
+ghost use Rattle.work.specs.Plans.{entries_of, notes_of, seen_of, pushed, saw, kept_too, noted, no_notes, reached, head_of, free_slot, next_position, after_in_rows, sight_of, position};
 
 use crate::notes::*;
 use crate::sight::Sight;
 use crate::work::{Entry, Reached};
-use terms::names::is_none;
+use arrayvec::ArrayVec;
 use terms::tables::*;
-use terms::{Name, Place, Position, Record, Slot};
+use terms::{Name, Position, Record, Slot, Station};
 
-// The lowest index below `count` with no name, or `count` where all are taken.
+// The lowest index below `count` with no name, or `count` where all are taken. Kept a loop that yields its index by
+// `break`: a rule of the project for the lowest empty slot; and a plain number, since a write past the end changes nothing.
 pub(crate) fn lowest_empty(names: &[Name], count: u8) -> u8
     ensures { result ≡ lowest (λ i. is_none (reads None names.now i)) count }
 {
     let mut i = 0;
-    let lowest = loop {
-        if i >= count {
-            break i;
-        }
-        if is_none(word(names, i, None)) {
+    loop {
+        let empty = word(names, i, None).is_none();
+        if i >= count || empty {
             break i;
         }
         i += 1;
-    };
-    lowest
+    }
 }
 
 impl Sight {
@@ -34,6 +32,33 @@ impl Sight {
     {
         Slot {
             index: lowest_empty(&self.slots, self.settings.slots),
+        }
+    }
+
+    // The next position of a record; none behind the last one.
+    pub(crate) fn next_position(&self, x: Position) -> Option<Position>
+        ensures { result ≡ next_position (sight_of self.now) x }
+    {
+        let index = x.index.checked_add(1)?;
+        (index < self.follow.positions).then_some(Position { index })
+    }
+
+    // What comes after an index where each station has a row of so many: the next of the row, or the first of the next
+    // station's; none behind the last one of all.
+    pub(crate) fn after(&self, station: Station, index: u8, each: u8) -> Option<(Station, u8)>
+        ensures { result ≡ after_in_rows (sight_of self.now) station index each }
+    {
+        if index as u16 + 1 < each as u16 {
+            Some((station, index + 1))
+        } else if station.number as u16 + 1 < self.settings.stations as u16 {
+            Some((
+                Station {
+                    number: station.number + 1,
+                },
+                0,
+            ))
+        } else {
+            None
         }
     }
 
@@ -48,17 +73,11 @@ impl Sight {
 }
 
 impl Entries {
-    // No entries. The array is filled with an entry that nothing reads.
     pub(crate) fn empty() -> Entries
         ensures { entries_of result ≡ [] }
     {
-        let entry = Entry {
-            place: Place { index: 0 },
-            node: Record { number: 0 },
-        };
         Entries {
-            entries: [entry; ENTRIES],
-            count: 0,
+            entries: ArrayVec::new(),
         }
     }
 
@@ -66,30 +85,22 @@ impl Entries {
     pub(crate) fn push(&mut self, entry: Entry)
         ensures { entries_of self.new ≡ pushed (entries_of self.old) entry }
     {
-        if self.count < 64 {
-            self.entries[self.count as usize] = entry;
-            self.count += 1;
-        }
+        let _ = self.entries.try_push(entry);
     }
 
     pub(crate) fn count(&self) -> u8
         ensures { result ≡ length (entries_of self.now) }
     {
-        self.count
+        self.entries.len() as u8
     }
 
     // The entry that a walk from the head comes to where so many are left.
     pub(crate) fn reach(&self, left: u8) -> Option<Reached>
         ensures { result ≡ reached (entries_of self.now) left }
     {
-        if left == 0 || left > self.count {
-            return None;
-        }
-        let left = left - 1;
-        Some(Reached {
-            entry: self.entries[left as usize],
-            left,
-        })
+        let left = left.checked_sub(1)?;
+        let entry = self.entries.get(left as usize).copied()?;
+        Some(Reached { entry, left })
     }
 
     pub(crate) fn head(&self) -> Option<Reached>

@@ -2,8 +2,11 @@
 use memory::access::Write;
 use terms::{Name, Outcome, Place, Position, Record, Slot, Spot, Station};
 
+// The first link of a record.
+pub(crate) const FIRST: Position = Position { index: 0 };
+
 // A record that a station withdrew, and the place that names it.
-#[derive(Clone, Copy)]
+#[derive(Clone, Copy, Default)]
 pub struct Entry {
     pub place: Place,
     pub node: Record,
@@ -101,25 +104,17 @@ pub enum Point {
     Give(Reached),
 }
 
+// The most writes that are owed at once.
+pub const MOST_OWED: usize = 5;
+
+// The writes that are owed, in their order; none stands where there is none to make.
 #[derive(Clone, Copy)]
-pub enum Owed {
-    Nothing,
-    One(Write),
-    Two(Write, Write),
-    Three(Write, Write, Write),
-    Four(Write, Write, Write, Write),
-    Five(Write, Write, Write, Write, Write),
+pub struct Owed {
+    pub(crate) writes: [Option<Write>; MOST_OWED],
 }
 
 #[derive(Clone, Copy)]
 pub struct Work {
     pub owed: Owed,
     pub point: Point,
-}
-
-// What comes after an access: more work, or the operation's answer.
-#[derive(Clone, Copy)]
-pub enum Next {
-    Busy(Work),
-    Ended(Outcome),
 }
