@@ -4,7 +4,7 @@ use Rattle.terms.specs.declared.Record.{Record}
 use Rattle.terms.specs.declared.Spot.{Spot}
 use Rattle.terms.specs.declared.Spot.TheVariants as at
 use Rattle.terms.specs.declared.Standing.{Standing}
-use Rattle.terms.specs.declared.Standing.TheVariants.{Pooled, Fresh, Linked, Retired}
+use Rattle.terms.specs.declared.Standing.TheVariants.{Pooled}
 use Rattle.terms.proofs.Puts.{put_tells}
 use Rattle.memory.specs.declared.access.Write.{Write}
 use Rattle.memory.specs.Shared.{Shared, name_at, set_name}

@@ -1,7 +1,7 @@
 -- How large a table is and how its rows are laid out, and the few functions that the words are changed by.
 use Rattle.std.specs.Prelude.{◌≡◌, ℕ, ◌<◌, Bool, true, false, ◌⊎◌, Some, None, Option}
 use Rattle.terms.specs.declared.Standing.{Standing}
-use Rattle.terms.specs.declared.Standing.TheVariants.{Pooled, Fresh, Linked, Retired}
+use Rattle.terms.specs.declared.Standing.TheVariants.{Linked, Retired}
 use Rattle.terms.specs.Words.{once_named}
 use Rattle.protocol.specs.Words.{Names, upd}
 use Rattle.protocol.specs.State.{Phase, resting, marking, passed, gone, emptied, giving}
