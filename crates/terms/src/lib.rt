@@ -1,5 +1,7 @@
 // The words of the subject as types. Each number is a type of its own, so that a slot
 // cannot stand where a place is meant.
+// Kept six structs of one number: one generic number would ask for a marker type and a
+// phantom field for each of them.
 #![tactic(auto)]
 
 pub mod tables;

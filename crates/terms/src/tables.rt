@@ -11,6 +11,7 @@ pub fn word<T: Copy>(words: &[T], i: u8, default: T) -> T
 pub fn set_word<T: Drop>(words: &mut [T], i: u8, v: T)
     ensures { (d : T) → ◌≡◌ {A = ℕ → T} (reads d words.new) (put (length words.old) (reads d words.old) i v) }
 {
+    // Kept an index: of what is written through `get_mut`, no clause of the library tells the slice.
     if (i as usize) < words.len() {
         words[i as usize] = v;
     }

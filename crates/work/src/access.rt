@@ -13,6 +13,7 @@ fn word(access: WordAccess) -> Option<Access>
 }
 
 impl Point {
+    // Kept a switch, as `decide` is: where a station stands lasts from one turn to the next, so it is data of a fixed size.
     fn access(self) -> Option<Access>
         ensures { result ≡ access_at self }
     {
