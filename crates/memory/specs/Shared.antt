@@ -1,11 +1,13 @@
 -- The shared words as functions from numbers, and one word changed.
-use Rattle.std.specs.Prelude.{ℕ, Bool, false, cond, ℤ, pos, ◌+ℤ◌, Some, None, Option}
+use Rattle.std.specs.Prelude.{ℕ, Bool, false, cond, ℤ, pos, ◌+ℤ◌, Some, None, Option, replicate}
 use Rattle.std.specs.Int.{saturate_to_bits}
 use Rattle.terms.specs.declared.Record.{Record}
 use Rattle.terms.specs.declared.Spot.{Spot}
 use Rattle.terms.specs.declared.Spot.TheVariants as at
 use Rattle.terms.specs.Words.{reads, cells, put, put_in, lowest, same_name}
 use Rattle.memory.specs.declared.memory.Memory.{Memory}
+use Rattle.memory.specs.declared.memory.RecordWords.{RecordWords}
+use Rattle.memory.specs.declared.memory.PlaceWords.{PlaceWords}
 
 pub record Shared : Type 0 where
   -- what each root names
@@ -23,18 +25,32 @@ pub record Shared : Type 0 where
   pub dones : ℕ → ℕ → Bool
   pub claims : ℕ → ℕ → ℕ
 
+-- words of a record that are all none, zero and clear, and such words of a place
+abbrev pub blank_record : RecordWords
+blank_record = record { count = pos 0; trace = false; deleted = false; links = replicate 4 None }
+
+abbrev pub blank_place : PlaceWords
+blank_place = record { node = None; done = false; claims = 0 }
+
+-- what a memory holds of each record, and of each place of each station
+abbrev pub record_words : Memory → ℕ → RecordWords
+record_words m = reads blank_record m.records
+
+abbrev pub place_words : Memory → ℕ → ℕ → PlaceWords
+place_words m = cells blank_place m.places
+
 -- what a memory holds
 abbrev pub view : Memory → Shared
 view m = record {
   roots = reads None m.roots;
-  links = cells None m.links;
-  counts = reads (pos 0) m.counts;
-  traces = reads false m.traces;
-  deleteds = reads false m.deleteds;
+  links = λ r. reads None (record_words m r).links;
+  counts = λ r. (record_words m r).count;
+  traces = λ r. (record_words m r).trace;
+  deleteds = λ r. (record_words m r).deleted;
   slots = cells None m.slots;
-  places = cells None m.places;
-  dones = cells false m.dones;
-  claims = cells 0 m.claims;
+  places = λ p i. (place_words m p i).node;
+  dones = λ p i. (place_words m p i).done;
+  claims = λ p i. (place_words m p i).claims;
 }
 
 -- one kind of words anew, the others as they are
@@ -107,6 +123,33 @@ set_done s p i b = with_dones s (put_in 8 64 s.dones p i b)
 
 abbrev pub set_claims : Shared → ℕ → ℕ → ℕ → Shared
 set_claims s p i n = with_claims s (put_in 8 64 s.claims p i n)
+
+-- all words of a record written at once, and all words of a place
+abbrev pub set_record_words : Shared → ℕ → RecordWords → Shared
+set_record_words s r w = record {
+  roots = s.roots;
+  links = put 128 s.links r (reads None w.links);
+  counts = put 128 s.counts r w.count;
+  traces = put 128 s.traces r w.trace;
+  deleteds = put 128 s.deleteds r w.deleted;
+  slots = s.slots;
+  places = s.places;
+  dones = s.dones;
+  claims = s.claims;
+}
+
+abbrev pub set_place_words : Shared → ℕ → ℕ → PlaceWords → Shared
+set_place_words s p i w = record {
+  roots = s.roots;
+  links = s.links;
+  counts = s.counts;
+  traces = s.traces;
+  deleteds = s.deleteds;
+  slots = s.slots;
+  places = put_in 8 64 s.places p i w.node;
+  dones = put_in 8 64 s.dones p i w.done;
+  claims = put_in 8 64 s.claims p i w.claims;
+}
 
 -- a count, more by d; it has 16 bits, and every count of a run stays far inside them
 abbrev pub add_count : Shared → ℕ → ℤ → Shared

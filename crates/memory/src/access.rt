@@ -1,7 +1,9 @@
 // What one turn can do to the shared words, and what it finds there.
+// A station and its place stay two fields: every definition over them takes them apart, as it would have to take a pair apart.
 use terms::{Name, Place, Record, Slot, Spot, Station};
 
 // A write whose outcome decides nothing. Slots and places without a station are the acting station's own.
+// The two that clear a trace do the same and are allowed to different stations, so they stay two.
 #[derive(Clone, Copy)]
 pub enum Write {
     // NN2

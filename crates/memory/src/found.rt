@@ -12,9 +12,7 @@ impl Found {
     {
         match self {
             Found::Name(v) => v,
-            Found::Nothing => None,
-            Found::Flag(_) => None,
-            Found::Number(_) => None,
+            _ => None,
         }
     }
 
@@ -24,9 +22,7 @@ impl Found {
     {
         match self {
             Found::Flag(b) => b,
-            Found::Nothing => false,
-            Found::Name(_) => false,
-            Found::Number(_) => false,
+            _ => false,
         }
     }
 
@@ -36,9 +32,7 @@ impl Found {
     {
         match self {
             Found::Number(n) => n == 0,
-            Found::Nothing => false,
-            Found::Name(_) => false,
-            Found::Flag(_) => false,
+            _ => false,
         }
     }
 }

@@ -5,5 +5,5 @@ pub mod access;
 pub mod found;
 pub mod memory;
 pub mod perform;
-pub mod standing;
 pub mod standings;
+mod words;

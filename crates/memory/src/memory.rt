@@ -1,4 +1,4 @@
-// The shared words, those of a kind beside each other, at the largest numbers that a table may have.
+// The shared words at the largest numbers that a table may have: those of a record together, and those of a place.
 use terms::Name;
 
 pub const STATIONS: usize = 8;
@@ -13,15 +13,46 @@ pub const POSITIONS: usize = 4;
 
 pub const ROOTS: usize = 16;
 
+// The words of a record.
+#[derive(Clone, Copy)]
+pub(crate) struct RecordWords {
+    pub(crate) count: i16,
+    pub(crate) trace: bool,
+    pub(crate) deleted: bool,
+    pub(crate) links: [Name; POSITIONS],
+}
+
+impl RecordWords {
+    pub(crate) const BLANK: RecordWords = RecordWords {
+        count: 0,
+        trace: false,
+        deleted: false,
+        links: [None; POSITIONS],
+    };
+}
+
+// The words of a place, where a station lists a record.
+#[derive(Clone, Copy)]
+pub(crate) struct PlaceWords {
+    pub(crate) node: Name,
+    pub(crate) done: bool,
+    pub(crate) claims: u8,
+}
+
+impl PlaceWords {
+    pub(crate) const BLANK: PlaceWords = PlaceWords {
+        node: None,
+        done: false,
+        claims: 0,
+    };
+}
+
+// Clauses speak of `view` of it: an `impl Model` was tried, and a model's value cannot be functions from numbers.
 #[derive(Drop)]
 pub struct Memory {
     pub(crate) roots: [Name; ROOTS],
-    pub(crate) links: [[Name; POSITIONS]; RECORDS],
-    pub(crate) counts: [i16; RECORDS],
-    pub(crate) traces: [bool; RECORDS],
-    pub(crate) deleteds: [bool; RECORDS],
+    pub(crate) records: [RecordWords; RECORDS],
+    // Slots and places stay two tables: a row of either is read by one call, and a struct of both would be taken apart at each.
     pub(crate) slots: [[Name; SLOTS]; STATIONS],
-    pub(crate) places: [[Name; PLACES]; STATIONS],
-    pub(crate) dones: [[bool; PLACES]; STATIONS],
-    pub(crate) claims: [[u8; PLACES]; STATIONS],
+    pub(crate) places: [[PlaceWords; PLACES]; STATIONS],
 }

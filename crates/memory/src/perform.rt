@@ -1,37 +1,40 @@
 // The one access of a turn.
 ghost use Rattle.std.specs.Prelude.{◌≡◌, None};
 ghost use Rattle.terms.specs.Words.{reads};
-ghost use Rattle.memory.specs.Shared.{view, blank, add_count, name_at, set_name, swap_answer, swapped, lowest_naming, released};
+ghost use Rattle.memory.specs.Shared.{view, blank, add_count, name_at, set_name, swap_answer, swapped, released};
 ghost use Rattle.memory.specs.Perform.{change_of, found_of, after_of};
 
 use crate::access::{Found, WordAccess, Write};
 use crate::memory::*;
 use terms::tables::*;
-use terms::{Name, Record, Spot, Station};
+use terms::{Name, Record, Slot, Spot, Station};
 
 impl Memory {
-    fn add_count(&mut self, r: u8, by: i16)
-        ensures { view self.new ≡ add_count (view self.old) r by }
+    #[tactic(auto, using(crate::proofs::Together::count_put))]
+    fn add_count(&mut self, r: Record, by: i16)
+        ensures { view self.new ≡ add_count (view self.old) r.number by }
     {
-        let count = word(&self.counts, r, 0).saturating_add(by);
-        set_word(&mut self.counts, r, count);
+        self.update_record(r, |words| words.count = words.count.saturating_add(by));
     }
 
     fn name_at(&self, spot: Spot) -> Name
         ensures { result ≡ name_at (view self.now) spot }
     {
         match spot {
-            Spot::Root(g) => word(&self.roots, g.index, None),
-            Spot::Link(r, x) => cell(&self.links, r.number, x.index, None),
+            Spot::Root(root) => word(&self.roots, root.index, None),
+            Spot::Link(r, position) => word(&self.record_words(r).links, position.index, None),
         }
     }
 
+    #[tactic(auto, using(crate::proofs::Together::link_put))]
     fn set_name(&mut self, spot: Spot, name: Name)
         ensures { view self.new ≡ set_name (view self.old) spot name }
     {
         match spot {
-            Spot::Root(g) => set_word(&mut self.roots, g.index, name),
-            Spot::Link(r, x) => set_cell(&mut self.links, r.number, x.index, name),
+            Spot::Root(root) => set_word(&mut self.roots, root.index, name),
+            Spot::Link(r, position) => self.update_record(r, |words| {
+                set_word(&mut words.links, position.index, name);
+            }),
         }
     }
 
@@ -45,60 +48,54 @@ impl Memory {
         }
         writes
     }
-}
 
-// The lowest of a station's slots that names the record, or 8 where none does.
-fn lowest_naming(slots: &[Name; SLOTS], r: Record) -> u8
-    ensures { result ≡ lowest_naming (reads None slots.now) r }
-{
-    let mut i = 0;
-    let lowest = loop {
-        if i >= 8 {
-            break i;
-        }
-        if word(slots, i, None) == Some(r) {
-            break i;
-        }
-        i += 1;
-    };
-    lowest
-}
-
-impl Memory {
     // Empties the lowest slot of the station that names the record.
-    fn release(&mut self, station: u8, r: Record)
-        ensures { view self.new ≡ released (view self.old) station r }
+    fn release(&mut self, station: Station, r: Record)
+        ensures { view self.new ≡ released (view self.old) station.number r }
     {
-        let i = lowest_naming(&row(&self.slots, station, None), r);
-        set_cell(&mut self.slots, station, i, None);
+        let slots = self.own_slots(station);
+        if let Some(i) = slots.iter().position(|name| *name == Some(r)) {
+            self.set_slot(station, Slot { index: i as u8 }, None);
+        }
     }
 
-    fn change(&mut self, station: u8, write: Write)
-        ensures { view self.new ≡ change_of (view self.old) station write }
+    #[tactic(auto, using(crate::proofs::Together::one_word_put))]
+    fn change(&mut self, station: Station, write: Write)
+        ensures { view self.new ≡ change_of (view self.old) station.number write }
     {
         match write {
-            Write::ZeroCount(r) => set_word(&mut self.counts, r.number, 0),
-            Write::ClearDeleted(r) => set_word(&mut self.deleteds, r.number, false),
-            Write::FillSlot(i, name) => set_cell(&mut self.slots, station, i.index, name),
+            Write::ZeroCount(r) => self.update_record(r, |words| words.count = 0),
+            Write::ClearDeleted(r) => self.update_record(r, |words| words.deleted = false),
+            Write::FillSlot(slot, name) => self.set_slot(station, slot, name),
             Write::Release(r) => self.release(station, r),
-            Write::RaiseCount(r) => self.add_count(r.number, 1),
-            Write::ClearTraceOfHeld(r) => set_word(&mut self.traces, r.number, false),
-            Write::LowerCount(r) => self.add_count(r.number, -1),
-            Write::SetDeleted(r) => set_word(&mut self.deleteds, r.number, true),
-            Write::ClearTraceOfListed(r) => set_word(&mut self.traces, r.number, false),
-            Write::ClearDone(i) => set_cell(&mut self.dones, station, i.index, false),
-            Write::FillPlace(i, r) => set_cell(&mut self.places, station, i.index, Some(r)),
-            Write::SetTrace(r) => set_word(&mut self.traces, r.number, true),
-            Write::EmptyPlace(i) => set_cell(&mut self.places, station, i.index, None),
-            Write::SetDone(i) => set_cell(&mut self.dones, station, i.index, true),
-            Write::AddClaim(z, i) => {
-                let claims = cell(&self.claims, z.number, i.index, 0).saturating_add(1);
-                set_cell(&mut self.claims, z.number, i.index, claims);
-            }
-            Write::DropClaim(z, i) => {
-                let claims = cell(&self.claims, z.number, i.index, 0).saturating_sub(1);
-                set_cell(&mut self.claims, z.number, i.index, claims);
-            }
+            Write::RaiseCount(r) => self.add_count(r, 1),
+            Write::ClearTraceOfHeld(r) => self.update_record(r, |words| words.trace = false),
+            Write::LowerCount(r) => self.add_count(r, -1),
+            Write::SetDeleted(r) => self.update_record(r, |words| words.deleted = true),
+            Write::ClearTraceOfListed(r) => self.update_record(r, |words| words.trace = false),
+            Write::ClearDone(place) => self.update_place(
+                station,
+                place,
+                |words| words.done = false,
+            ),
+            Write::FillPlace(place, r) => self.update_place(
+                station,
+                place,
+                |words| words.node = Some(r),
+            ),
+            Write::SetTrace(r) => self.update_record(r, |words| words.trace = true),
+            Write::EmptyPlace(place) => self.update_place(
+                station,
+                place,
+                |words| words.node = None,
+            ),
+            Write::SetDone(place) => self.update_place(station, place, |words| words.done = true),
+            Write::AddClaim(lister, place) => self.update_place(lister, place, |words| {
+                words.claims = words.claims.saturating_add(1);
+            }),
+            Write::DropClaim(lister, place) => self.update_place(lister, place, |words| {
+                words.claims = words.claims.saturating_sub(1);
+            }),
         }
     }
 
@@ -114,17 +111,19 @@ impl Memory {
                 self.set_name(spot, new);
                 Found::Nothing
             }
-            WordAccess::AskDeleted(r) => Found::Flag(word(&self.deleteds, r.number, false)),
-            WordAccess::AskPlace(z, i) => Found::Name(cell(&self.places, z.number, i.index, None)),
-            WordAccess::AskDone(z, i) => Found::Flag(cell(&self.dones, z.number, i.index, false)),
-            WordAccess::AskCount(r) => Found::Number(word(&self.counts, r.number, 0)),
-            WordAccess::AskSlot(z, i) => Found::Name(cell(&self.slots, z.number, i.index, None)),
-            WordAccess::AskTrace(r) => Found::Flag(word(&self.traces, r.number, false)),
-            WordAccess::AskClaims(i) => {
-                Found::Number(cell(&self.claims, station.number, i.index, 0) as i16)
+            WordAccess::AskDeleted(r) => Found::Flag(self.record_words(r).deleted),
+            WordAccess::AskPlace(lister, place) => {
+                Found::Name(self.place_words(lister, place).node)
+            }
+            WordAccess::AskDone(lister, place) => Found::Flag(self.place_words(lister, place).done),
+            WordAccess::AskCount(r) => Found::Number(self.record_words(r).count),
+            WordAccess::AskSlot(holder, slot) => Found::Name(self.slot(holder, slot)),
+            WordAccess::AskTrace(r) => Found::Flag(self.record_words(r).trace),
+            WordAccess::AskClaims(place) => {
+                Found::Number(i16::from(self.place_words(station, place).claims))
             }
             WordAccess::Change(write) => {
-                self.change(station.number, write);
+                self.change(station, write);
                 Found::Nothing
             }
         }
@@ -141,23 +140,19 @@ impl Memory {
     pub fn own_places(&self, station: Station) -> [Name; PLACES]
         ensures { reads None result ≡ (view self.now).places station.number }
     {
-        row(&self.places, station.number, None)
+        row(&self.places, station.number, PlaceWords::BLANK).map(|words| words.node)
     }
 
     // All none, zero and clear.
+    #[tactic(auto, using(crate::proofs::Together::all_blank))]
     pub fn new() -> Memory
         ensures { view result ≡ blank }
     {
         Memory {
             roots: filled(None),
-            links: rows_filled(None),
-            counts: filled(0),
-            traces: filled(false),
-            deleteds: filled(false),
+            records: filled(RecordWords::BLANK),
             slots: rows_filled(None),
-            places: rows_filled(None),
-            dones: rows_filled(false),
-            claims: rows_filled(0),
+            places: rows_filled(PlaceWords::BLANK),
         }
     }
 }

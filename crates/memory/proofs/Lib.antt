@@ -1,0 +1,3 @@
+pub mod Lowest
+pub mod Named
+pub mod Together
