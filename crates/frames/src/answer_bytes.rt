@@ -20,7 +20,7 @@ impl Answer<'_> {
             Answer::Card(card) => LineBytes::joined(&[0x00], card),
             Answer::Refused(refused) => {
                 let why = refused.why;
-                LineBytes::joined(&[why.number(), why.layer().number(), refused.place], &[])
+                LineBytes::joined(&[u8::from(why), u8::from(why.layer()), refused.place], &[])
             }
         }
     }
@@ -32,10 +32,7 @@ pub fn answer_of<'a>(bytes: &'a [u8]) -> Option<Answer<'a>>
 {
     match bytes {
         [0x00, rest @ ..] => granted(rest),
-        [number, layer, place] => match refused(*number, *layer, *place) {
-            Some(refused) => Some(Answer::Refused(refused)),
-            None => None,
-        },
+        &[number, layer, place] => Some(Answer::Refused(refused(number, layer, place)?)),
         _ => None,
     }
 }
@@ -46,7 +43,7 @@ fn granted<'a>(rest: &'a [u8]) -> Option<Answer<'a>>
     match rest {
         [] => Some(Answer::Accepted),
         [0x00] => Some(Answer::Working),
-        [0x01, result] => Some(Answer::Finished(*result)),
+        &[0x01, result] => Some(Answer::Finished(result)),
         [_, _, _, ..] => Some(Answer::Card(rest)),
         _ => None,
     }
@@ -55,10 +52,6 @@ fn granted<'a>(rest: &'a [u8]) -> Option<Answer<'a>>
 fn refused(number: u8, layer: u8, place: u8) -> Option<Refused>
     ensures { result ≡ refused_of number layer place }
 {
-    let why = Refusal::from_number(number)?;
-    if why.layer().number() == layer {
-        Some(Refused { why, place })
-    } else {
-        None
-    }
+    let why = Refusal::try_from(number).ok()?;
+    (u8::from(why.layer()) == layer).then_some(Refused { why, place })
 }

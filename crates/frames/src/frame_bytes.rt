@@ -43,18 +43,18 @@ pub fn frame_of<'a>(bytes: &'a [u8]) -> Result<Frame<'a>, LineFault>
 fn setup_frame<'a>(rest: &'a [u8]) -> Result<Frame<'a>, LineFault>
     ensures { SortsAs (setup_of rest.now) result }
 {
-    let [stations, slots, records, roots, t1, t2, kind, pool] = rest else {
+    let &[stations, slots, records, roots, t1, t2, kind, pool] = rest else {
         return Err(LineFault::Shape);
     };
     Ok(Frame::Setup(SetupBytes {
-        stations: *stations,
-        slots: *slots,
-        records: *records,
-        roots: *roots,
-        t1: *t1,
-        t2: *t2,
-        kind: *kind,
-        pool: *pool,
+        stations,
+        slots,
+        records,
+        roots,
+        t1,
+        t2,
+        kind,
+        pool,
     }))
 }
 
@@ -63,49 +63,33 @@ fn of_station<'a>(op: u8, station: u8, rest: &'a [u8]) -> Result<Frame<'a>, Line
     ensures { SortsAs (by_first op station rest.now) result }
 {
     match (op, rest) {
-        (DEREF, [a, b]) => Ok(Frame::Deref {
-            station,
-            spot: SpotBytes {
-                container: *a,
-                index: *b,
-            },
-        }),
-        (RELEASE, [node]) => Ok(Frame::Release {
-            station,
-            node: *node,
-        }),
-        (CAS, [a, b, old, new]) => Ok(Frame::Cas {
-            station,
-            spot: SpotBytes {
-                container: *a,
-                index: *b,
-            },
-            old: *old,
-            new: *new,
-        }),
-        (STORE, [a, b, new]) => Ok(Frame::Store {
-            station,
-            spot: SpotBytes {
-                container: *a,
-                index: *b,
-            },
-            new: *new,
-        }),
+        (DEREF, &[container, index]) => {
+            let spot = SpotBytes { container, index };
+            Ok(Frame::Deref { station, spot })
+        }
+        (RELEASE, &[node]) => Ok(Frame::Release { station, node }),
+        (CAS, &[container, index, old, new]) => {
+            let spot = SpotBytes { container, index };
+            Ok(Frame::Cas {
+                station,
+                spot,
+                old,
+                new,
+            })
+        }
+        (STORE, &[container, index, new]) => {
+            let spot = SpotBytes { container, index };
+            Ok(Frame::Store { station, spot, new })
+        }
         (NEW, []) => Ok(Frame::New { station }),
-        (DELETE, [node]) => Ok(Frame::Delete {
-            station,
-            node: *node,
-        }),
+        (DELETE, &[node]) => Ok(Frame::Delete { station, node }),
         (STEP, []) => Ok(Frame::Step { station }),
         (FILL, [node, card @ ..]) => Ok(Frame::Fill {
             station,
             node: *node,
             card,
         }),
-        (READ, [node]) => Ok(Frame::Read {
-            station,
-            node: *node,
-        }),
+        (READ, &[node]) => Ok(Frame::Read { station, node }),
         _ => Err(LineFault::Shape),
     }
 }
