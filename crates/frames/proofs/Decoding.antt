@@ -1,7 +1,30 @@
--- One turn of the reader of a line.
-use Rattle.std.proofs.Common.{◌≡◌, ℕ, ◌+◌, ◌-◌, ◌<◌, ◌≤◌, List, [], ◌∷◌, ◌++◌, length, get_or, take, drop, set, Some, None, Option, refl, ap, ◌∙◌, append_assoc, arith}
-use Rattle.std.proofs.lemmas.List.{take_rest, take_more_set}
+-- Pairs of digits that are read one by one.
+use Rattle.std.proofs.Common.{◌≡◌, ℕ, ◌+◌, ◌*◌, ◌<◌, ◌≤◌, suc, zero, List, [], ◌∷◌, ◌++◌, length, get_or, drop, Some, None, Option, refl, ap, ◌∙◌, append_assoc, append-nil, arith}
+use Rattle.std.proofs.lemmas.List.{drop_more, at_drop_all}
+use Rattle.std.specs.Simd.{first_chunks}
 use Rattle.frames.specs.Hexadecimal.{byte_of, before, bytes_of_pairs}
+
+-- the bytes of pairs that stand side by side
+abbrev pub bytes_of_chunks : List (List ℕ) → Option (List ℕ)
+bytes_of_chunks [] = Some []
+bytes_of_chunks (p ∷ ps) = before (byte_of (get_or p 0 0) (get_or p 1 0)) (bytes_of_chunks ps)
+
+pub whole : (k : ℕ) (s : List ℕ) → length s ≡ k * 2 → bytes_of_chunks (first_chunks 2 k s) ≡ bytes_of_pairs s
+whole zero [] even = refl
+whole zero (a ∷ s) even = absurd (omega arith)
+whole (suc k) [] even = absurd (omega arith)
+whole (suc k) (a ∷ []) even = absurd (omega arith)
+whole (suc k) (a ∷ b ∷ s) even = ap (before (byte_of a b)) (whole k s (omega arith))
+
+before_none : (o : Option ℕ) → before o None ≡ None
+before_none None = refl
+before_none (Some b) = refl
+
+pub odd : (k : ℕ) (s : List ℕ) → length s ≡ k * 2 + 1 → bytes_of_pairs s ≡ None
+odd k [] one = absurd (omega arith)
+odd k (a ∷ []) one = refl
+odd zero (a ∷ b ∷ s) one = absurd (omega arith)
+odd (suc k) (a ∷ b ∷ s) one = rw (odd k s (omega arith)) (before_none (byte_of a b))
 
 -- the bytes read so far, and then those still to be read
 abbrev pub onto : List ℕ → Option (List ℕ) → Option (List ℕ)
@@ -16,13 +39,15 @@ pub onto_nothing : (o : Option (List ℕ)) → onto [] o ≡ o
 onto_nothing None = refl
 onto_nothing (Some r) = refl
 
--- a pair is read and its byte put at the end
-pub turn : (items rest line : List ℕ) (n b : ℕ) → n < length items → 2 ≤ length rest → Some b ≡ byte_of (get_or rest 0 0) (get_or rest 1 0) → onto (take n items) (bytes_of_pairs rest) ≡ bytes_of_pairs line → onto (take (n + 1) (set items n b)) (bytes_of_pairs (take (length rest - 2) (drop 2 rest))) ≡ bytes_of_pairs line
-turn items [] line n b room long pair inv = absurd (omega arith)
-turn items (x ∷ []) line n b room long pair inv = absurd (omega arith)
-turn items (x ∷ y ∷ s) line n b room long pair inv =
-    ap (λ t. onto (take (n + 1) (set items n b)) (bytes_of_pairs t)) (take_rest (x ∷ y ∷ s) 2)
-    ∙ ap (λ t. onto t (bytes_of_pairs s)) (take_more_set items n b room)
-    ∙ onto_before (take n items) b (bytes_of_pairs s)
-    ∙ ap (λ o. onto (take n items) (before o (bytes_of_pairs s))) pair
-    ∙ inv
+module _ (xs : List ℕ) (pairs : List (List ℕ)) (i : ℕ) where
+  -- a pair is read and its byte put at the end
+  pub one_read : (b : ℕ) → i < length pairs → Some b ≡ byte_of (get_or (get_or pairs i []) 0 0) (get_or (get_or pairs i []) 1 0) → onto (xs ++ b ∷ []) (bytes_of_chunks (drop (i + 1) pairs)) ≡ onto xs (bytes_of_chunks (drop i pairs))
+  one_read b more is = rw (drop_more pairs i [] more, ← is) (onto_before xs b (bytes_of_chunks (drop (i + 1) pairs)))
+
+  -- a pair that is no byte
+  pub none_read : i < length pairs → None ≡ byte_of (get_or (get_or pairs i []) 0 0) (get_or (get_or pairs i []) 1 0) → None ≡ onto xs (bytes_of_chunks (drop i pairs))
+  none_read more is = rw (drop_more pairs i [] more, ← is) refl
+
+  -- nothing is left
+  pub all_read : length pairs ≤ i → onto xs (bytes_of_chunks (drop i pairs)) ≡ Some xs
+  all_read done = at_drop_all (λ ps. onto xs (bytes_of_chunks ps)) pairs i done ∙ ap Some (append-nil xs)

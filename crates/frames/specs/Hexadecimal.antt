@@ -7,13 +7,13 @@ use Rattle.frames.specs.declared.refusal.LineFault.TheVariants as fault
 
 -- what the room for a line holds
 abbrev pub line_bytes : LineBytes → List ℕ
-line_bytes b = take b.len b.items
+line_bytes b = b.items.items
 
 abbrev pub text_digits : LineText → List ℕ
-text_digits t = take t.len t.signs
+text_digits t = take (length t.signs.items - 1) t.signs.items
 
 abbrev pub text_line : LineText → List ℕ
-text_line t = take (t.len + 1) t.signs
+text_line t = t.signs.items
 
 -- bytes are written into the room for a line, or are too many for it
 abbrev pub FitsLine : List ℕ → Option LineBytes → Type 0

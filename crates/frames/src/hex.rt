@@ -1,13 +1,11 @@
 // Lines to bytes and bytes to lines.
 ghost use Rattle.std.specs.Prelude.{◌≡◌, ◌+◌, ◌<◌, ◌≤◌, [], ◌∷◌, ◌++◌, length, take, Some, None};
-ghost use Rattle.frames.specs.Hexadecimal.{digit_of, byte_of, capital_of, written, line_bytes, text_digits, text_line, Decodes, FitsLine};
+ghost use Rattle.std.specs.Option.{option_map};
+ghost use Rattle.frames.specs.Hexadecimal.{digit_of, bytes_of_line, byte_of, capital_of, written, line_bytes, text_digits, text_line, Decodes, FitsLine};
 
 use crate::line::{LineBytes, LineText};
 use crate::refusal::LineFault;
-
-const MOST_BYTES: usize = 64;
-
-const MOST_DIGITS: usize = 128;
+use arrayvec::ArrayVec;
 
 // The value of a digit of either case.
 fn digit(c: u8) -> Option<u8>
@@ -28,29 +26,25 @@ fn byte(high: u8, low: u8) -> Option<u8>
     Some(digit(high)? * 16 + digit(low)?)
 }
 
+// The bytes of pairs of digits, unless they are too many for a line.
+fn bytes_of_line(line: &[u8]) -> Option<LineBytes>
+    ensures { option_map line_bytes result ≡ bytes_of_line line.now }
+{
+    let (pairs, []) = line.as_chunks::<2>() else {
+        return None;
+    };
+    let mut items = ArrayVec::new();
+    for &[high, low] in pairs {
+        items.try_push(byte(high, low)?).ok()?;
+    }
+    Some(LineBytes { items })
+}
+
 // The bytes of a line, which may be any bytes of any number.
 pub fn decode(line: &[u8]) -> Result<LineBytes, LineFault>
     ensures { Decodes line.now result }
 {
-    if line.len() > MOST_DIGITS {
-        return Err(LineFault::Digits);
-    }
-    let mut items = [0; 64];
-    let mut len = 0u8;
-    let mut rest = line;
-    while let [high, low, more @ ..] = rest {
-        let Some(value) = byte(*high, *low) else {
-            return Err(LineFault::Digits);
-        };
-        items[len as usize] = value;
-        len += 1;
-        rest = more;
-    }
-    if rest.is_empty() {
-        Ok(LineBytes { items, len })
-    } else {
-        Err(LineFault::Digits)
-    }
+    bytes_of_line(line).ok_or(LineFault::Digits)
 }
 
 // The capital digit of a value below 16.
@@ -70,25 +64,13 @@ pub fn encode(bytes: &LineBytes) -> LineText
     ensures digits { text_digits result ≡ written (line_bytes bytes.now) }
     ensures line { text_line result ≡ written (line_bytes bytes.now) ++ 10 ∷ [] }
 {
-    let mut signs = [0; 129];
-    let mut len = 0u8;
-    let items = bytes.as_slice();
-    for b in items {
-        signs[len as usize] = capital(*b / 16);
-        signs[len as usize + 1] = capital(*b % 16);
-        len += 2;
+    let mut signs = ArrayVec::new();
+    for byte in bytes.as_slice() {
+        signs.push(capital(*byte / 16));
+        signs.push(capital(*byte % 16));
     }
-    signs[len as usize] = b'\n';
-    LineText { signs, len }
-}
-
-// The same room, with `more` from the place `at` on.
-fn put(mut items: [u8; MOST_BYTES], at: usize, more: &[u8]) -> [u8; MOST_BYTES]
-    requires { at + length more.now ≤ 64 }
-    ensures { take (at + length more.now) result ≡ take at items ++ more.now }
-{
-    items[at..at + more.len()].copy_from_slice(more);
-    items
+    signs.push(b'\n');
+    LineText { signs }
 }
 
 impl LineBytes {
@@ -96,21 +78,17 @@ impl LineBytes {
     pub fn joined(head: &[u8], tail: &[u8]) -> Option<LineBytes>
         ensures { FitsLine (head.now ++ tail.now) result }
     {
-        if head.len() > MOST_BYTES || tail.len() > MOST_BYTES - head.len() {
-            return None;
-        }
-        let items = put(put([0; MOST_BYTES], 0, head), head.len(), tail);
-        Some(LineBytes {
-            items,
-            len: (head.len() + tail.len()) as u8,
-        })
+        let mut items = ArrayVec::new();
+        items.try_extend_from_slice(head).ok()?;
+        items.try_extend_from_slice(tail).ok()?;
+        Some(LineBytes { items })
     }
 
     pub fn as_slice(&self) -> &[u8]
         ensures value { result.now ≡ line_bytes self.now }
         ensures short { length result.now ≤ 64 }
     {
-        &self.items[0..self.len as usize]
+        self.items.as_slice()
     }
 }
 
@@ -119,13 +97,16 @@ impl LineText {
     pub fn digits(&self) -> &[u8]
         ensures { result.now ≡ text_digits self.now }
     {
-        &self.signs[0..self.len as usize]
+        match self.signs.split_last() {
+            Some((_newline, digits)) => digits,
+            None => &[],
+        }
     }
 
     // The digits and the newline, ready to be printed.
     pub fn line(&self) -> &[u8]
         ensures { result.now ≡ text_line self.now }
     {
-        &self.signs[0..self.len as usize + 1]
+        self.signs.as_slice()
     }
 }
