@@ -7,23 +7,13 @@ use crate::line::{LineBytes, LineText};
 use crate::refusal::LineFault;
 use arrayvec::ArrayVec;
 
-// The value of a digit of either case.
-fn digit(c: u8) -> Option<u8>
-    ensures { result ≡ digit_of c }
-{
-    match c {
-        b'0'..=b'9' => Some(c - b'0'),
-        b'A'..=b'F' => Some(c - b'A' + 10),
-        b'a'..=b'f' => Some(c - b'a' + 10),
-        _ => None,
-    }
-}
-
-// The byte of a pair of digits.
+// The byte of a pair of digits of either case.
 fn byte(high: u8, low: u8) -> Option<u8>
     ensures { result ≡ byte_of high low }
 {
-    Some(digit(high)? * 16 + digit(low)?)
+    let high = char::from(high).to_digit(16)?;
+    let low = char::from(low).to_digit(16)?;
+    Some((high * 16 + low) as u8)
 }
 
 // The bytes of pairs of digits, unless they are too many for a line.
@@ -65,9 +55,9 @@ pub fn encode(bytes: &LineBytes) -> LineText
     ensures line { text_line result ≡ written (line_bytes bytes.now) ++ 10 ∷ [] }
 {
     let mut signs = ArrayVec::new();
-    for byte in bytes.as_slice() {
-        signs.push(capital(*byte / 16));
-        signs.push(capital(*byte % 16));
+    for &byte in bytes.as_slice() {
+        signs.push(capital(byte / 16));
+        signs.push(capital(byte % 16));
     }
     signs.push(b'\n');
     LineText { signs }
