@@ -2,7 +2,7 @@
 use crate::refusal::Refused;
 
 // A card's bytes are borrowed from whoever wrote them.
-#[derive(Clone, Copy)]
+#[derive(Clone, Copy, PartialEq, Eq, Debug)]
 pub enum Answer<'a> {
     Accepted,
     Working,

@@ -21,7 +21,7 @@ pub struct SpotBytes {
 }
 
 // One frame. `node` is a record's number. FILL borrows its card from the decoded line.
-#[derive(Clone, Copy)]
+#[derive(Clone, Copy, PartialEq, Eq, Debug)]
 pub enum Frame<'a> {
     Setup(SetupBytes),
     Deref {

@@ -17,4 +17,4 @@ pub use frame::{Frame, SetupBytes, SpotBytes};
 pub use frame_bytes::frame_of;
 pub use hex::{decode, encode};
 pub use line::{LineBytes, LineText};
-pub use refusal::{Layer, LineFault, NoRefusal, Refusal, Refused};
+pub use refusal::{Layer, LineFault, UnknownRefusal, Refusal, Refused};

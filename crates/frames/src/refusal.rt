@@ -22,7 +22,7 @@ pub enum Refusal {
 
 // A number that no refusal has.
 #[derive(Clone, Copy, PartialEq, Eq, Debug)]
-pub struct NoRefusal(pub u8);
+pub struct UnknownRefusal(pub u8);
 
 // Which part tells the refusal, with its number.
 #[derive(Clone, Copy, PartialEq, Eq, Debug)]

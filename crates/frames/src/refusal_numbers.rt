@@ -2,7 +2,7 @@
 ghost use Rattle.std.specs.Prelude.{◌≡◌};
 ghost use Rattle.frames.specs.Refusals.{number_of, layer_of, layer_number, HasNumber, line_refused};
 
-use crate::refusal::{Layer, LineFault, NoRefusal, Refusal, Refused};
+use crate::refusal::{Layer, LineFault, UnknownRefusal, Refusal, Refused};
 
 // 1 to 15.
 impl From<Refusal> for u8 {
@@ -15,11 +15,11 @@ impl From<Refusal> for u8 {
 
 // The refusal that has the number, or the number where none has it.
 impl TryFrom<u8> for Refusal {
-    type Error = NoRefusal;
+    type Error = UnknownRefusal;
 
     ghost try_from_gives = { HasNumber };
 
-    fn try_from(number: u8) -> Result<Refusal, NoRefusal> {
+    fn try_from(number: u8) -> Result<Refusal, UnknownRefusal> {
         match number {
             1 => Ok(Refusal::Digits),
             2 => Ok(Refusal::Shape),
@@ -36,7 +36,7 @@ impl TryFrom<u8> for Refusal {
             13 => Ok(Refusal::Fresh),
             14 => Ok(Refusal::Retired),
             15 => Ok(Refusal::List),
-            _ => Err(NoRefusal(number)),
+            _ => Err(UnknownRefusal(number)),
         }
     }
 }
