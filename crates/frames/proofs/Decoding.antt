@@ -43,11 +43,3 @@ module _ (xs : List ℕ) (pairs : List (List ℕ)) (i : ℕ) where
   -- a pair is read and its byte put at the end
   pub one_read : (b : ℕ) → i < length pairs → Some b ≡ byte_of (get_or (get_or pairs i []) 0 0) (get_or (get_or pairs i []) 1 0) → onto (xs ++ b ∷ []) (bytes_of_chunks (drop (i + 1) pairs)) ≡ onto xs (bytes_of_chunks (drop i pairs))
   one_read b more is = rw (drop_more pairs i [] more, ← is) (onto_before xs b (bytes_of_chunks (drop (i + 1) pairs)))
-
-  -- a pair that is no byte
-  pub none_read : i < length pairs → None ≡ byte_of (get_or (get_or pairs i []) 0 0) (get_or (get_or pairs i []) 1 0) → None ≡ onto xs (bytes_of_chunks (drop i pairs))
-  none_read more is = rw (drop_more pairs i [] more, ← is) refl
-
-  -- nothing is left
-  pub all_read : length pairs ≤ i → onto xs (bytes_of_chunks (drop i pairs)) ≡ Some xs
-  all_read done = at_drop_all (λ ps. onto xs (bytes_of_chunks ps)) pairs i done ∙ ap Some (append-nil xs)

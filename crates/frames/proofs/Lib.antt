@@ -2,4 +2,3 @@ pub mod AloneLaws
 pub mod Decoding
 pub mod FrameLaws
 pub mod LineLaws
-pub mod Sorting

@@ -12,17 +12,7 @@ pub loop-high-init : goal.loop-high-init
 loop-high-init c =
     let all = whole (length c.args.line.now / 2) c.args.line.now (omega arith) in grind (arith, onto_nothing)
 
-pub returns-in_err-byte : goal.returns-in_err-byte
-returns-in_err-byte c =
-    let none = none_read c.loop-high.items.items c.as_chunks.result.0.now c.loop-high.high-index c.loop-high-test.true c.in_err-byte.ensures in grind (arith, nat_tests)
-
-pub returns-in_err-ok : goal.returns-in_err-ok
-returns-in_err-ok c = grind (arith, nat_tests)
-
 pub loop-high-preserved : goal.loop-high-preserved
 loop-high-preserved c =
     let one = one_read c.loop-high.items.items c.as_chunks.result.0.now c.loop-high.high-index c.in_ok-byte.field-0 c.loop-high-test.true (c.in_ok-byte.ensures) in grind (arith)
 
-pub returns : goal.returns
-returns c =
-    let all = all_read c.loop-high.items.items c.as_chunks.result.0.now c.loop-high.high-index c.loop-high-test.false in grind (arith, nat_tests)
