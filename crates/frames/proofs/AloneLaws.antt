@@ -1,10 +1,9 @@
 -- What is read as a frame or an answer has that frame's or answer's bytes.
-use Rattle.std.proofs.Common.{◌≡◌, ℕ, cond, eqb, List, [], ◌∷◌, IfSome, Some, None, Option, sym, refl, ap, subst, inl, inr, arith}
+use Rattle.std.proofs.Common.{◌≡◌, ℕ, cond, eqb, List, [], ◌∷◌, IfSome, Some, None, Option, sym, refl, ap, arith}
 use Rattle.std.proofs.lemmas.Option.{MatchOption-at_some}
-use Rattle.std.proofs.lemmas.Bool.{cond-true, cond-false}
-use Rattle.std.proofs.lemmas.Bool.Decides.{eqb_tells}
+use Rattle.std.proofs.lemmas.Bool.{cond_both, eqb-true}
 use Rattle.std.specs.Option.{option_map}
-use Rattle.frames.specs.Answers.{AnswerValue, REFUSED, answer_bytes, answer_of, granted_of, at_layer, refusal_line, ToldApart}
+use Rattle.frames.specs.Answers.{AnswerValue, REFUSED, answer_bytes, answer_of, granted_of, at_layer, refused_of, refusal_line, ToldApart}
 use Rattle.frames.specs.Frames.{FrameValue, SETUP, DEREF, RELEASE, CAS, STORE, NEW, DELETE, STEP, FILL, READ, frame_bytes, frame_of, no_more, one_more, two_more, three_more, four_more, card_more, setup_of, setup_bytes, spot, by_first, with_station}
 use Rattle.frames.specs.Laws.{FramesAlone, AnswersAlone}
 use Rattle.frames.specs.Refusals.{number_of, layer_of, layer_number, with_number, refusals, refusal_of}
@@ -15,11 +14,7 @@ abbrev Of : {X : Type 0} → (X → Type 0) → Option X → Type 0
 Of P o = IfSome o P
 
 by_number : {X : Type 0} (P : X → Type 0) (n k : ℕ) (x y : Option X) → (n ≡ k → Of P x) → Of P y → Of P (cond (eqb n k) x y)
-by_number P n k x y here there =
-    elim (eqb_tells n k) [
-      | inl t ↦ subst (Of P) (sym (cond-true (eqb n k) x y t.0)) (here t.1)
-      | inr t ↦ subst (Of P) (sym (cond-false (eqb n k) x y t.0)) there
-    ]
+by_number P n k x y here there = cond_both (eqb n k) x y (Of P) (λ e. here (eqb-true n k e)) (λ _. there)
 
 module _ (P : FrameValue → Type 0) where
   none_more_is : (f : FrameValue) (rest : List ℕ) → (rest ≡ [] → P f) → Of P (no_more f rest)
@@ -98,18 +93,19 @@ numbered : (n : ℕ) (ws : List Refusal) → Of (λ w. number_of w ≡ n) (with_
 numbered n [] = tt
 numbered n (w ∷ ws) = by_number (λ v. number_of v ≡ n) n (number_of w) _ _ (λ e. sym e) (numbered n ws)
 
-refused_alone : (n layer place : ℕ) (o : Option Refusal) → Of (λ w. number_of w ≡ n) o → Of (Is (n ∷ layer ∷ place ∷ [])) (option_map REFUSED (at_layer o layer place))
+refused_alone : (n layer place : ℕ) (o : Option Refusal) → Of (λ w. number_of w ≡ n) o → Of (λ a. Is (n ∷ layer ∷ place ∷ []) (REFUSED a)) (at_layer o layer place)
 refused_alone n layer place None h = tt
 refused_alone n layer place (Some w) h =
-    elim (eqb_tells (layer_number (layer_of w)) layer) [
-      | inl t ↦ subst (λ o. Of (Is (n ∷ layer ∷ place ∷ [])) (option_map REFUSED o)) (sym (cond-true _ _ _ t.0)) (let e = t.1 in (cc, tt))
-      | inr t ↦ subst (λ o. Of (Is (n ∷ layer ∷ place ∷ [])) (option_map REFUSED o)) (sym (cond-false _ _ _ t.0)) tt
-    ]
+    by_number (λ a. Is (n ∷ layer ∷ place ∷ []) (REFUSED a)) (layer_number (layer_of w)) layer (Some (record { why = w; place = place })) None (λ e. (cc, tt)) tt
+
+of_mapped : {X Y : Type 0} (P : Y → Type 0) (f : X → Y) (o : Option X) → Of (λ x. P (f x)) o → Of P (option_map f o)
+of_mapped P f None h = tt
+of_mapped P f (Some x) h = h
 
 refusal_alone : (first : ℕ) (rest : List ℕ) → Of (Is (first ∷ rest)) (refusal_line first rest)
 refusal_alone first [] = tt
 refusal_alone first (layer ∷ []) = tt
-refusal_alone first (layer ∷ place ∷ []) = refused_alone first layer place (refusal_of first) (numbered first refusals)
+refusal_alone first (layer ∷ place ∷ []) = of_mapped (Is (first ∷ layer ∷ place ∷ [])) REFUSED (refused_of first layer place) (refused_alone first layer place (refusal_of first) (numbered first refusals))
 refusal_alone first (layer ∷ place ∷ x ∷ more) = tt
 
 lines_alone : (bs : List ℕ) → Of (Is bs) (answer_of bs)

@@ -1,7 +1,7 @@
 -- A line of an odd length, with a bad pair or with too many pairs has no bytes; else each turn adds one.
 use Rattle.std.proofs.Common.{◌/◌, length, arith}
 use Rattle.std.proofs.lemmas.Bool.Decides.{nat_tests}
-use Rattle.frames.proofs.Decoding.{whole, odd, onto_nothing, one_read, none_read, all_read}
+use Rattle.frames.proofs.Decoding.{whole, odd, onto_nothing, one_read}
 use Rattle.frames.proofs.hex.bytes_of_line.Goals as goal
 
 pub returns-in_default : goal.returns-in_default
@@ -14,5 +14,5 @@ loop-high-init c =
 
 pub loop-high-preserved : goal.loop-high-preserved
 loop-high-preserved c =
-    let one = one_read c.loop-high.items.items c.as_chunks.result.0.now c.loop-high.high-index c.in_ok-byte.field-0 c.loop-high-test.true (c.in_ok-byte.ensures) in grind (arith)
+    let one = one_read c.loop-high.items.items c.as_chunks.result.0.now c.loop-high.high-index c.in_ok-byte.field-0 c.loop-high-test.true c.in_ok-byte.ensures in grind arith
 
