@@ -10,3 +10,7 @@ pub enum Answer<'a> {
     Card(&'a [u8]),
     Refused(Refused),
 }
+
+// Bytes that are no answer.
+#[derive(Clone, Copy, PartialEq, Eq, Debug)]
+pub struct NoAnswer;

@@ -29,13 +29,17 @@ const FILL: u8 = 0x11;
 const READ: u8 = 0x12;
 
 // The frame that the bytes of a line are.
-pub fn frame_of<'a>(bytes: &'a [u8]) -> Result<Frame<'a>, LineFault>
-    ensures { Sorts bytes.now result }
-{
-    match bytes {
-        [SETUP, rest @ ..] => setup_frame(rest),
-        [op, station, rest @ ..] => of_station(*op, *station, rest),
-        _ => Err(LineFault::Shape),
+impl<'a> TryFrom<&'a [u8]> for Frame<'a> {
+    type Error = LineFault;
+
+    ghost try_from_gives = { λ bytes r. Sorts bytes.now r };
+
+    fn try_from(bytes: &'a [u8]) -> Result<Frame<'a>, LineFault> {
+        match bytes {
+            [SETUP, rest @ ..] => setup_frame(rest),
+            [op, station, rest @ ..] => of_station(*op, *station, rest),
+            _ => Err(LineFault::Shape),
+        }
     }
 }
 

@@ -2,7 +2,7 @@
 ghost use Rattle.std.specs.Prelude.{◌≡◌};
 ghost use Rattle.frames.specs.Refusals.{number_of, layer_of, layer_number, HasNumber, line_refused};
 
-use crate::refusal::{Layer, LineFault, UnknownRefusal, Refusal, Refused};
+use crate::refusal::{Layer, LineFault, Refusal, Refused, UnknownRefusal};
 
 // 1 to 15.
 impl From<Refusal> for u8 {

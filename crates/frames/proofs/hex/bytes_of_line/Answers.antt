@@ -15,4 +15,3 @@ loop-high-init c =
 pub loop-high-preserved : goal.loop-high-preserved
 loop-high-preserved c =
     let one = one_read c.loop-high.items.items c.as_chunks.result.0.now c.loop-high.high-index c.in_ok-byte.field-0 c.loop-high-test.true c.in_ok-byte.ensures in grind arith
-
