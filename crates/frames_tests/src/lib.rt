@@ -4,6 +4,7 @@
 #[cfg(test)]
 mod tests {
     use frames::{Answer, Frame, LineFault, LineText, decode, encode};
+    use std::process::Abort;
     use std::test::Fail;
 
     // A line, and what its frame is written back as, or the refusal.
@@ -138,30 +139,34 @@ FF0100 none\n\
         Some(encode(&back))
     }
 
-    #[test]
-    fn frames_and_refusals(rt: HostRuntime) -> Result<(), Fail> {
-        for row in LINES.split('\n') {
+    // Each row has a line, and what `back` makes of it or says of it.
+    fn rows_hold<'a, F: Fn(&[u8]) -> Result<LineText, &'a str>>(
+        rt: &impl Abort,
+        rows: &str,
+        back: F,
+    ) -> Result<(), Fail>
+        requires { F.IsAlwaysCallable back }
+    {
+        for row in rows.split('\n') {
             let (line, want) = row.split_once(' ').ok_or("no space")?;
-            match frame_back(line.as_bytes()) {
+            match back(line.as_bytes()) {
                 Ok(text) => assert!(rt; text.digits() == want.as_bytes(), "{}", row),
-                Err(fault) => assert!(rt; want == refusal(fault), "{}", row),
+                Err(said) => assert!(rt; want == said, "{}", row),
             }
         }
-        assert_eq!(rt; LINES.split('\n').count(), 70);
         Ok(())
     }
 
     #[test]
+    fn frames_and_refusals(rt: HostRuntime) -> Result<(), Fail> {
+        assert_eq!(rt; LINES.split('\n').count(), 70);
+        rows_hold(&rt, LINES, |line| frame_back(line).map_err(refusal))
+    }
+
+    #[test]
     fn answers(rt: HostRuntime) -> Result<(), Fail> {
-        for row in ANSWERS.split('\n') {
-            let (line, want) = row.split_once(' ').ok_or("no space")?;
-            match answer_back(line.as_bytes()) {
-                Some(text) => assert!(rt; text.digits() == want.as_bytes(), "{}", row),
-                None => assert!(rt; want == "none", "{}", row),
-            }
-        }
         assert_eq!(rt; ANSWERS.split('\n').count(), 38);
-        Ok(())
+        rows_hold(&rt, ANSWERS, |line| answer_back(line).ok_or("none"))
     }
 
     // Lines of 0 to 66 bytes, and with one digit more.
