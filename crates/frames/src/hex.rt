@@ -1,7 +1,7 @@
 // Lines to bytes and bytes to lines.
-ghost use Rattle.std.specs.Prelude.{◌≡◌, ◌+◌, ◌<◌, ◌≤◌, [], ◌∷◌, ◌++◌, length, take, Some, None};
+ghost use Rattle.std.specs.Prelude.{◌≡◌, ◌<◌, [], ◌∷◌, ◌++◌};
 ghost use Rattle.std.specs.Option.{option_map};
-ghost use Rattle.frames.specs.Hexadecimal.{digit_of, bytes_of_line, byte_of, capital_of, written, line_bytes, text_digits, text_line, Decodes, FitsLine};
+ghost use Rattle.frames.specs.Hexadecimal.{bytes_of_line, byte_of, capital_of, written, line_bytes, text_digits, text_line, Decodes};
 
 use crate::line::{LineBytes, LineText};
 use crate::refusal::LineFault;
