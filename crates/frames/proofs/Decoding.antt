@@ -1,6 +1,5 @@
 -- Pairs of digits that are read one by one.
-use Rattle.std.proofs.Common.{◌≡◌, ℕ, ◌+◌, ◌*◌, ◌<◌, suc, zero, List, [], ◌∷◌, ◌++◌, length, get_or, drop, Some, None, Option, refl, ap, append_assoc, arith}
-use Rattle.std.proofs.lemmas.List.{drop_more}
+use Rattle.std.proofs.Common.{◌≡◌, ℕ, ◌+◌, ◌*◌, suc, zero, List, [], ◌∷◌, ◌++◌, length, get_or, Some, None, Option, refl, ap, append_assoc, arith}
 use Rattle.std.specs.Simd.{first_chunks}
 use Rattle.frames.specs.Hexadecimal.{byte_of, before, bytes_of_pairs}
 
@@ -16,30 +15,16 @@ whole (suc k) [] even = absurd (omega arith)
 whole (suc k) (a ∷ []) even = absurd (omega arith)
 whole (suc k) (a ∷ b ∷ s) even = ap (before (byte_of a b)) (whole k s (omega arith))
 
-before_none : (o : Option ℕ) → before o None ≡ None
-before_none None = refl
-before_none (Some b) = refl
-
 pub odd : (k : ℕ) (s : List ℕ) → length s ≡ k * 2 + 1 → bytes_of_pairs s ≡ None
 odd k [] one = absurd (omega arith)
 odd k (a ∷ []) one = refl
 odd zero (a ∷ b ∷ s) one = absurd (omega arith)
-odd (suc k) (a ∷ b ∷ s) one = rw (odd k s (omega arith)) (before_none (byte_of a b))
+odd (suc k) (a ∷ b ∷ s) one = let none = odd k s (omega arith) in grind arith
 
 -- the bytes read so far, and then those still to be read
 abbrev pub onto : List ℕ → Option (List ℕ) → Option (List ℕ)
 onto xs None = None
 onto xs (Some ys) = Some (xs ++ ys)
 
-onto_before : (xs : List ℕ) (b : ℕ) (o : Option (List ℕ)) → onto (xs ++ b ∷ []) o ≡ onto xs (before (Some b) o)
-onto_before xs b None = refl
-onto_before xs b (Some r) = ap Some (append_assoc xs (b ∷ []) r)
-
-pub onto_nothing : (o : Option (List ℕ)) → onto [] o ≡ o
-onto_nothing None = refl
-onto_nothing (Some r) = refl
-
-module _ (xs : List ℕ) (pairs : List (List ℕ)) (i : ℕ) where
-  -- a pair is read and its byte put at the end
-  pub one_read : (b : ℕ) → i < length pairs → Some b ≡ byte_of (get_or (get_or pairs i []) 0 0) (get_or (get_or pairs i []) 1 0) → onto (xs ++ b ∷ []) (bytes_of_chunks (drop (i + 1) pairs)) ≡ onto xs (bytes_of_chunks (drop i pairs))
-  one_read b more is = rw (drop_more pairs i [] more, ← is) (onto_before xs b (bytes_of_chunks (drop (i + 1) pairs)))
+pub onto_before : (xs : List ℕ) (b : ℕ) (o : Option (List ℕ)) → onto (xs ++ b ∷ []) o ≡ onto xs (before (Some b) o)
+onto_before xs b o = grind (arith, append_assoc)

@@ -1,7 +1,8 @@
--- A line of an odd length, with a bad pair or with too many pairs has no bytes; else each turn adds one.
+-- A line of an odd length has no bytes; the loop begins with none and each turn adds one.
 use Rattle.std.proofs.Common.{◌/◌, length, arith}
 use Rattle.std.proofs.lemmas.Bool.Decides.{nat_tests}
-use Rattle.frames.proofs.Decoding.{whole, odd, onto_nothing, one_read}
+use Rattle.std.proofs.lemmas.Grind.{common_steps}
+use Rattle.frames.proofs.Decoding.{whole, odd, onto_before}
 use Rattle.frames.proofs.hex.bytes_of_line.Goals as goal
 
 pub returns-in_default : goal.returns-in_default
@@ -10,8 +11,7 @@ returns-in_default c =
 
 pub loop-high-init : goal.loop-high-init
 loop-high-init c =
-    let all = whole (length c.args.line.now / 2) c.args.line.now (omega arith) in grind (arith, onto_nothing)
+    let all = whole (length c.args.line.now / 2) c.args.line.now (omega arith) in grind arith
 
 pub loop-high-preserved : goal.loop-high-preserved
-loop-high-preserved c =
-    let one = one_read c.loop-high.items.items c.as_chunks.result.0.now c.loop-high.high-index c.in_ok-byte.field-0 c.loop-high-test.true c.in_ok-byte.ensures in grind arith
+loop-high-preserved c = grind (arith, common_steps, onto_before)
