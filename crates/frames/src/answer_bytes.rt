@@ -34,12 +34,11 @@ impl<'a> TryFrom<&'a [u8]> for Answer<'a> {
     ghost try_from_gives = { λ bytes r. option_map answer_value (result_ok r) ≡ answer_of bytes.now };
 
     fn try_from(bytes: &'a [u8]) -> Result<Answer<'a>, NoAnswer> {
-        let answer = match bytes {
-            [0x00, rest @ ..] => granted(rest),
-            &[number, layer, place] => refused(number, layer, place),
-            _ => None,
-        };
-        answer.ok_or(NoAnswer)
+        match bytes {
+            [0x00, rest @ ..] => granted(rest).ok_or(NoAnswer),
+            &[number, layer, place] => refused(number, layer, place).ok_or(NoAnswer),
+            _ => Err(NoAnswer),
+        }
     }
 }
 

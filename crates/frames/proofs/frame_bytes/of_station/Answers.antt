@@ -1,0 +1,7 @@
+-- Any other first byte, or another length, is no frame.
+use Rattle.std.proofs.Common.{arith}
+use Rattle.std.proofs.lemmas.Bool.Decides.{nat_tests}
+use Rattle.frames.proofs.frame_bytes.of_station.Goals as goal
+
+pub returns-in_default : goal.returns-in_default
+returns-in_default c = grind (arith, nat_tests)
