@@ -1,5 +1,5 @@
 -- A line of hexadecimal digits, and the bytes that it stands for.
-use Rattle.std.specs.Prelude.{◌≡◌, ℕ, ◌+◌, ◌-◌, ◌*◌, ◌/◌, ◌%◌, ◌<◌, cond, ◌&&◌, List, [], ◌∷◌, length, take, Some, None, Ok, Err, Option, Result, nat_le, nat_lt}
+use Rattle.std.specs.Prelude.{◌≡◌, ℕ, ◌+◌, ◌-◌, ◌*◌, ◌/◌, ◌%◌, ◌<◌, ◌≤◌, cond, ◌&&◌, List, [], ◌∷◌, length, take, Some, None, Ok, Err, Option, Result, nat_le, nat_lt}
 use Rattle.frames.specs.declared.line.LineBytes.{LineBytes}
 use Rattle.frames.specs.declared.line.LineText.{LineText}
 use Rattle.frames.specs.declared.refusal.LineFault.{LineFault}
@@ -17,7 +17,7 @@ text_line t = t.signs.items
 
 -- bytes are written into the room for a line, or are too many for it
 abbrev pub FitsLine : List ℕ → Option LineBytes → Type 0
-FitsLine bs (Some b) = line_bytes b ≡ bs
+FitsLine bs (Some b) = (line_bytes b ≡ bs) × (length bs ≤ 64)
 FitsLine bs None = 64 < length bs
 
 -- the value of a digit: 0 to 9, A to F or a to f

@@ -1,5 +1,5 @@
 // Lines to bytes and bytes to lines.
-ghost use Rattle.std.specs.Prelude.{◌≡◌, ◌<◌, [], ◌∷◌, ◌++◌};
+ghost use Rattle.std.specs.Prelude.{◌≡◌, ◌<◌, ◌≤◌, [], ◌∷◌, ◌++◌, length};
 ghost use Rattle.std.specs.Option.{option_map};
 ghost use Rattle.frames.specs.Hexadecimal.{bytes_of_line, byte_of, capital_of, written, line_bytes, text_digits, text_line, Decodes};
 
@@ -53,6 +53,7 @@ fn capital(value: u8) -> u8
 pub fn encode(bytes: &LineBytes) -> LineText
     ensures digits { text_digits result ≡ written (line_bytes bytes.now) }
     ensures line { text_line result ≡ written (line_bytes bytes.now) ++ 10 ∷ [] }
+    ensures short { length (text_line result) ≤ 129 }
 {
     // Digits by hand: `write!` of `{byte:02X}` takes 0.9 seconds in place of 0.03 for a million long lines, and no clause says that it succeeds where there is room.
     let mut signs = ArrayVec::new();
