@@ -1,121 +1,46 @@
 -- What is read as a frame or an answer has that frame's or answer's bytes.
-use Rattle.std.proofs.Common.{◌≡◌, ℕ, cond, eqb, List, [], ◌∷◌, IfSome, Some, None, Option, sym, refl, ap, subst, inl, inr, arith}
-use Rattle.std.proofs.lemmas.Option.{MatchOption-at_some}
-use Rattle.std.proofs.lemmas.Bool.{cond-true, cond-false}
-use Rattle.std.proofs.lemmas.Bool.Decides.{eqb_tells}
+use Rattle.std.proofs.Common.{◌≡◌, ℕ, eqb, List, [], ◌∷◌, Option, Some, None, refl, arith}
+use Rattle.std.proofs.lemmas.Bool.{cond_both, eqb-true}
+use Rattle.std.proofs.lemmas.Bool.Decides.{nat_tests}
 use Rattle.std.specs.Option.{option_map}
-use Rattle.frames.specs.Answers.{AnswerValue, REFUSED, answer_bytes, answer_of, granted_of, at_layer, refusal_line, ToldApart}
-use Rattle.frames.specs.Frames.{FrameValue, SETUP, DEREF, RELEASE, CAS, STORE, NEW, DELETE, STEP, FILL, READ, frame_bytes, frame_of, no_more, one_more, two_more, three_more, four_more, card_more, setup_of, setup_bytes, spot, by_first, with_station}
+use Rattle.frames.specs.Answers.{AnswerValue, REFUSED, answer_bytes, granted_of, at_layer, refusal_line, ToldApart}
+use Rattle.frames.specs.Frames.{FrameValue, frame_bytes, setup_of, by_first, with_station}
 use Rattle.frames.specs.Laws.{FramesAlone, AnswersAlone}
-use Rattle.frames.specs.Refusals.{number_of, layer_of, layer_number, with_number, refusals, refusal_of}
+use Rattle.frames.specs.Refusals.{number_of, refusal_of}
 use Rattle.frames.specs.declared.refusal.Refusal.{Refusal}
 
--- P of what is there, if anything is
-abbrev Of : {X : Type 0} → (X → Type 0) → Option X → Type 0
-Of P o = IfSome o P
+setup_alone : (op : ℕ) (rest : List ℕ) (f : FrameValue) → op ≡ 0x00 → setup_of rest ≡ Some f → frame_bytes f ≡ op ∷ rest
+setup_alone op rest f z e = grind (arith, nat_tests)
 
-by_number : {X : Type 0} (P : X → Type 0) (n k : ℕ) (x y : Option X) → (n ≡ k → Of P x) → Of P y → Of P (cond (eqb n k) x y)
-by_number P n k x y here there =
-    elim (eqb_tells n k) [
-      | inl t ↦ subst (Of P) (sym (cond-true (eqb n k) x y t.0)) (here t.1)
-      | inr t ↦ subst (Of P) (sym (cond-false (eqb n k) x y t.0)) there
-    ]
+station_alone : (op st : ℕ) (rest : List ℕ) (f : FrameValue) → by_first op st rest ≡ Some f → frame_bytes f ≡ op ∷ st ∷ rest
+station_alone op st rest f e = grind (arith, nat_tests)
 
-module _ (P : FrameValue → Type 0) where
-  none_more_is : (f : FrameValue) (rest : List ℕ) → (rest ≡ [] → P f) → Of P (no_more f rest)
-  none_more_is f [] h = h refl
-  none_more_is f (x ∷ xs) h = tt
-
-  one_more_is : (f : ℕ → FrameValue) (rest : List ℕ) → ((a : ℕ) → rest ≡ a ∷ [] → P (f a)) → Of P (one_more f rest)
-  one_more_is f [] h = tt
-  one_more_is f (x ∷ xs) h = none_more_is (f x) xs (λ e. h x (ap (λ l. x ∷ l) e))
-
-  two_more_is : (f : ℕ → ℕ → FrameValue) (rest : List ℕ) → ((a b : ℕ) → rest ≡ a ∷ b ∷ [] → P (f a b)) → Of P (two_more f rest)
-  two_more_is f [] h = tt
-  two_more_is f (x ∷ xs) h = one_more_is (f x) xs (λ a e. h x a (ap (λ l. x ∷ l) e))
-
-  three_more_is : (f : ℕ → ℕ → ℕ → FrameValue) (rest : List ℕ) → ((a b c : ℕ) → rest ≡ a ∷ b ∷ c ∷ [] → P (f a b c)) → Of P (three_more f rest)
-  three_more_is f [] h = tt
-  three_more_is f (x ∷ xs) h = two_more_is (f x) xs (λ a b e. h x a b (ap (λ l. x ∷ l) e))
-
-  four_more_is : (f : ℕ → ℕ → ℕ → ℕ → FrameValue) (rest : List ℕ) → ((a b c d : ℕ) → rest ≡ a ∷ b ∷ c ∷ d ∷ [] → P (f a b c d)) → Of P (four_more f rest)
-  four_more_is f [] h = tt
-  four_more_is f (x ∷ xs) h = three_more_is (f x) xs (λ a b c e. h x a b c (ap (λ l. x ∷ l) e))
-
-  card_more_is : (f : ℕ → List ℕ → FrameValue) (rest : List ℕ) → ((a : ℕ) (card : List ℕ) → rest ≡ a ∷ card → P (f a card)) → Of P (card_more f rest)
-  card_more_is f [] h = tt
-  card_more_is f (x ∷ xs) h = h x xs refl
-
--- f has these bytes
-abbrev Has : List ℕ → FrameValue → Type 0
-Has bs f = frame_bytes f ≡ bs
-
-setup_alone : (op : ℕ) (rest : List ℕ) → op ≡ 0x00 → Of (Has (op ∷ rest)) (setup_of rest)
-setup_alone op [] o = tt
-setup_alone op (n ∷ []) o = tt
-setup_alone op (n ∷ k ∷ []) o = tt
-setup_alone op (n ∷ k ∷ m ∷ []) o = tt
-setup_alone op (n ∷ k ∷ m ∷ g ∷ rest) o =
-    four_more_is (Has (op ∷ n ∷ k ∷ m ∷ g ∷ rest)) (λ t1 t2 kind pool. SETUP (setup_bytes n k m g t1 t2 kind pool)) rest (λ a b c d e. cc)
-
-station_alone : (op st : ℕ) (rest : List ℕ) → Of (Has (op ∷ st ∷ rest)) (by_first op st rest)
-station_alone op st rest =
-    let P : FrameValue → Type 0 = Has (op ∷ st ∷ rest) in
-    by_number P op 0x01 _ _ (λ o. two_more_is P (λ a b. DEREF st (spot a b)) rest (λ a b e. cc))
-    (by_number P op 0x02 _ _ (λ o. one_more_is P (RELEASE st) rest (λ a e. cc))
-    (by_number P op 0x03 _ _ (λ o. four_more_is P (λ a b old new. CAS st (spot a b) old new) rest (λ a b c d e. cc))
-    (by_number P op 0x04 _ _ (λ o. three_more_is P (λ a b new. STORE st (spot a b) new) rest (λ a b c e. cc))
-    (by_number P op 0x05 _ _ (λ o. none_more_is P (NEW st) rest (λ e. cc))
-    (by_number P op 0x06 _ _ (λ o. one_more_is P (DELETE st) rest (λ a e. cc))
-    (by_number P op 0x10 _ _ (λ o. none_more_is P (STEP st) rest (λ e. cc))
-    (by_number P op 0x11 _ _ (λ o. card_more_is P (FILL st) rest (λ a card e. cc))
-    (by_number P op 0x12 _ _ (λ o. one_more_is P (READ st) rest (λ a e. cc))
-    tt))))))))
-
-with_station_alone : (op : ℕ) (rest : List ℕ) → Of (Has (op ∷ rest)) (with_station op rest)
-with_station_alone op [] = tt
-with_station_alone op (st ∷ rest) = station_alone op st rest
-
-bytes_alone : (bs : List ℕ) → Of (Has bs) (frame_of bs)
-bytes_alone [] = tt
-bytes_alone (op ∷ rest) =
-    by_number (Has (op ∷ rest)) op 0x00 (setup_of rest) (with_station op rest) (setup_alone op rest) (with_station_alone op rest)
+with_station_alone : (op : ℕ) (rest : List ℕ) (f : FrameValue) → with_station op rest ≡ Some f → frame_bytes f ≡ op ∷ rest
+with_station_alone op [] f e = grind arith
+with_station_alone op (st ∷ rest) f e = station_alone op st rest f e
 
 pub frames_alone : FramesAlone
-frames_alone bs f e = MatchOption-at_some (Unit {0}) (Has bs) f e (bytes_alone bs)
+frames_alone [] f e = grind arith
+frames_alone (op ∷ rest) f e =
+    cond_both (eqb op 0x00) (setup_of rest) (with_station op rest) (λ o. o ≡ Some f → frame_bytes f ≡ op ∷ rest) (λ z. setup_alone op rest f (eqb-true op 0x00 z)) (λ _. with_station_alone op rest f) e
 
--- a has these bytes, and is told apart by them
-abbrev Is : List ℕ → AnswerValue → Type 0
-Is bs a = (answer_bytes a ≡ bs) × ToldApart a
+granted_alone : (first : ℕ) (rest : List ℕ) (a : AnswerValue) → first ≡ 0x00 → granted_of rest ≡ Some a → (answer_bytes a ≡ first ∷ rest) × ToldApart a
+granted_alone first rest a z e = grind (arith, nat_tests)
 
-granted_alone : (first : ℕ) (rest : List ℕ) → first ≡ 0x00 → Of (Is (first ∷ rest)) (granted_of rest)
-granted_alone first [] o = (cc, tt)
-granted_alone first (a ∷ []) o = by_number (Is (first ∷ a ∷ [])) a 0x00 _ _ (λ e. (cc, tt)) tt
-granted_alone first (a ∷ b ∷ []) o = by_number (Is (first ∷ a ∷ b ∷ [])) a 0x01 _ _ (λ e. (cc, tt)) tt
-granted_alone first (a ∷ b ∷ c ∷ more) o = (cc, omega arith)
+numbered : (n : ℕ) (w : Refusal) → refusal_of n ≡ Some w → number_of w ≡ n
+numbered n w e = grind (arith, nat_tests)
 
-numbered : (n : ℕ) (ws : List Refusal) → Of (λ w. number_of w ≡ n) (with_number n ws)
-numbered n [] = tt
-numbered n (w ∷ ws) = by_number (λ v. number_of v ≡ n) n (number_of w) _ _ (λ e. sym e) (numbered n ws)
+refused_alone : (n layer place : ℕ) (o : Option Refusal) (a : AnswerValue) → ((w : Refusal) → o ≡ Some w → number_of w ≡ n) → option_map REFUSED (at_layer o layer place) ≡ Some a → (answer_bytes a ≡ n ∷ layer ∷ place ∷ []) × ToldApart a
+refused_alone n layer place None a has e = grind arith
+refused_alone n layer place (Some w) a has e = let same = has w refl in grind (arith, nat_tests)
 
-refused_alone : (n layer place : ℕ) (o : Option Refusal) → Of (λ w. number_of w ≡ n) o → Of (Is (n ∷ layer ∷ place ∷ [])) (option_map REFUSED (at_layer o layer place))
-refused_alone n layer place None h = tt
-refused_alone n layer place (Some w) h =
-    elim (eqb_tells (layer_number (layer_of w)) layer) [
-      | inl t ↦ subst (λ o. Of (Is (n ∷ layer ∷ place ∷ [])) (option_map REFUSED o)) (sym (cond-true _ _ _ t.0)) (let e = t.1 in (cc, tt))
-      | inr t ↦ subst (λ o. Of (Is (n ∷ layer ∷ place ∷ [])) (option_map REFUSED o)) (sym (cond-false _ _ _ t.0)) tt
-    ]
-
-refusal_alone : (first : ℕ) (rest : List ℕ) → Of (Is (first ∷ rest)) (refusal_line first rest)
-refusal_alone first [] = tt
-refusal_alone first (layer ∷ []) = tt
-refusal_alone first (layer ∷ place ∷ []) = refused_alone first layer place (refusal_of first) (numbered first refusals)
-refusal_alone first (layer ∷ place ∷ x ∷ more) = tt
-
-lines_alone : (bs : List ℕ) → Of (Is bs) (answer_of bs)
-lines_alone [] = tt
-lines_alone (first ∷ rest) =
-    by_number (Is (first ∷ rest)) first 0x00 (granted_of rest) (refusal_line first rest) (granted_alone first rest) (refusal_alone first rest)
+refusal_alone : (first : ℕ) (rest : List ℕ) (a : AnswerValue) → refusal_line first rest ≡ Some a → (answer_bytes a ≡ first ∷ rest) × ToldApart a
+refusal_alone first [] a e = grind arith
+refusal_alone first (layer ∷ []) a e = grind arith
+refusal_alone first (layer ∷ place ∷ []) a e = refused_alone first layer place (refusal_of first) a (numbered first) e
+refusal_alone first (layer ∷ place ∷ x ∷ more) a e = grind arith
 
 pub answers_alone : AnswersAlone
-answers_alone bs a e = MatchOption-at_some (Unit {0}) (Is bs) a e (lines_alone bs)
+answers_alone [] a e = grind arith
+answers_alone (first ∷ rest) a e =
+    cond_both (eqb first 0x00) (granted_of rest) (refusal_line first rest) (λ o. o ≡ Some a → (answer_bytes a ≡ first ∷ rest) × ToldApart a) (λ z. granted_alone first rest a (eqb-true first 0x00 z)) (λ _. refusal_alone first rest a) e

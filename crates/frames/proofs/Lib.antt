@@ -1,6 +1,4 @@
 pub mod AloneLaws
 pub mod Decoding
-pub mod Encoding
 pub mod FrameLaws
 pub mod LineLaws
-pub mod Sorting

@@ -1,5 +1,5 @@
 -- A line of hexadecimal digits, and the bytes that it stands for.
-use Rattle.std.specs.Prelude.{◌≡◌, ℕ, ◌+◌, ◌-◌, ◌*◌, ◌/◌, ◌%◌, ◌<◌, cond, ◌&&◌, List, [], ◌∷◌, length, take, Some, None, Ok, Err, Option, Result, nat_le, nat_lt}
+use Rattle.std.specs.Prelude.{◌≡◌, ℕ, ◌+◌, ◌-◌, ◌*◌, ◌/◌, ◌%◌, ◌<◌, ◌≤◌, cond, ◌&&◌, List, [], ◌∷◌, length, take, Some, None, Ok, Err, Option, Result, nat_le, nat_lt}
 use Rattle.frames.specs.declared.line.LineBytes.{LineBytes}
 use Rattle.frames.specs.declared.line.LineText.{LineText}
 use Rattle.frames.specs.declared.refusal.LineFault.{LineFault}
@@ -7,17 +7,17 @@ use Rattle.frames.specs.declared.refusal.LineFault.TheVariants as fault
 
 -- what the room for a line holds
 abbrev pub line_bytes : LineBytes → List ℕ
-line_bytes b = take b.len b.items
+line_bytes b = b.items.items
 
 abbrev pub text_digits : LineText → List ℕ
-text_digits t = take t.len t.signs
+text_digits t = take (length t.signs.items - 1) t.signs.items
 
 abbrev pub text_line : LineText → List ℕ
-text_line t = take (t.len + 1) t.signs
+text_line t = t.signs.items
 
 -- bytes are written into the room for a line, or are too many for it
 abbrev pub FitsLine : List ℕ → Option LineBytes → Type 0
-FitsLine bs (Some b) = line_bytes b ≡ bs
+FitsLine bs (Some b) = (line_bytes b ≡ bs) × (length bs ≤ 64)
 FitsLine bs None = 64 < length bs
 
 -- the value of a digit: 0 to 9, A to F or a to f

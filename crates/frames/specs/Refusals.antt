@@ -1,7 +1,8 @@
 -- Every refusal with its number and its layer.
-use Rattle.std.specs.Prelude.{ℕ, cond, List, [], ◌∷◌, Some, None, Option, ◌==◌}
+use Rattle.std.specs.Prelude.{◌≡◌, ℕ, cond, List, [], ◌∷◌, Some, None, Option, Result, ok_or, ◌==◌}
 use Rattle.frames.specs.declared.refusal.Refusal.{Refusal}
 use Rattle.frames.specs.declared.refusal.Refusal.TheVariants as why
+use Rattle.frames.specs.declared.refusal.UnknownRefusal.{UnknownRefusal}
 use Rattle.frames.specs.declared.refusal.Layer.{Layer}
 use Rattle.frames.specs.declared.refusal.Layer.TheVariants as told
 use Rattle.frames.specs.declared.refusal.Refused.{Refused}
@@ -59,6 +60,10 @@ with_number n (w ∷ ws) = cond (n == number_of w) (Some w) (with_number n ws)
 
 abbrev pub refusal_of : ℕ → Option Refusal
 refusal_of n = with_number n refusals
+
+-- the result is the refusal that has the number, or an error with the number where none has it
+abbrev pub HasNumber : ℕ → Result Refusal UnknownRefusal → Type 0
+HasNumber n r = r ≡ ok_or (refusal_of n) (record { 0 = n })
 
 -- what a fault of the line is refused with, at byte 0
 abbrev pub line_refused : LineFault → Refused

@@ -2,7 +2,7 @@
 use crate::refusal::Refused;
 
 // A card's bytes are borrowed from whoever wrote them.
-#[derive(Clone, Copy)]
+#[derive(Clone, Copy, PartialEq, Eq, Debug)]
 pub enum Answer<'a> {
     Accepted,
     Working,
@@ -10,3 +10,7 @@ pub enum Answer<'a> {
     Card(&'a [u8]),
     Refused(Refused),
 }
+
+// Bytes that are no answer.
+#[derive(Clone, Copy, PartialEq, Eq, Debug)]
+pub struct NoAnswer;

@@ -1,10 +1,11 @@
 // Answers to bytes and bytes to answers.
 ghost use Rattle.std.specs.Prelude.{◌≡◌};
 ghost use Rattle.std.specs.Option.{option_map};
-ghost use Rattle.frames.specs.Answers.{answer_value, answer_bytes, answer_of, granted_of, refused_of};
+ghost use Rattle.std.specs.Result.{result_ok};
+ghost use Rattle.frames.specs.Answers.{answer_value, answer_bytes, answer_of, granted_of, refused_of, REFUSED};
 ghost use Rattle.frames.specs.Hexadecimal.{FitsLine};
 
-use crate::answer::Answer;
+use crate::answer::{Answer, NoAnswer};
 use crate::line::LineBytes;
 use crate::refusal::{Refusal, Refused};
 
@@ -18,25 +19,26 @@ impl Answer<'_> {
             Answer::Working => LineBytes::joined(&[0x00, 0x00], &[]),
             Answer::Finished(result) => LineBytes::joined(&[0x00, 0x01, result], &[]),
             Answer::Card(card) => LineBytes::joined(&[0x00], card),
-            Answer::Refused(refused) => {
-                let why = refused.why;
-                LineBytes::joined(&[why.number(), why.layer().number(), refused.place], &[])
-            }
+            Answer::Refused(Refused { why, place }) => LineBytes::joined(
+                &[u8::from(why), u8::from(why.layer()), place],
+                &[],
+            ),
         }
     }
 }
 
 // The answer that the bytes of a line are. A card is known by its three bytes or more.
-pub fn answer_of<'a>(bytes: &'a [u8]) -> Option<Answer<'a>>
-    ensures { option_map answer_value result ≡ answer_of bytes.now }
-{
-    match bytes {
-        [0x00, rest @ ..] => granted(rest),
-        [number, layer, place] => match refused(*number, *layer, *place) {
-            Some(refused) => Some(Answer::Refused(refused)),
-            None => None,
-        },
-        _ => None,
+impl<'a> TryFrom<&'a [u8]> for Answer<'a> {
+    type Error = NoAnswer;
+
+    ghost try_from_gives = { λ bytes r. option_map answer_value (result_ok r) ≡ answer_of bytes.now };
+
+    fn try_from(bytes: &'a [u8]) -> Result<Answer<'a>, NoAnswer> {
+        match bytes {
+            [0x00, rest @ ..] => granted(rest).ok_or(NoAnswer),
+            &[number, layer, place] => refused(number, layer, place).ok_or(NoAnswer),
+            _ => Err(NoAnswer),
+        }
     }
 }
 
@@ -46,19 +48,15 @@ fn granted<'a>(rest: &'a [u8]) -> Option<Answer<'a>>
     match rest {
         [] => Some(Answer::Accepted),
         [0x00] => Some(Answer::Working),
-        [0x01, result] => Some(Answer::Finished(*result)),
+        &[0x01, result] => Some(Answer::Finished(result)),
         [_, _, _, ..] => Some(Answer::Card(rest)),
         _ => None,
     }
 }
 
-fn refused(number: u8, layer: u8, place: u8) -> Option<Refused>
-    ensures { result ≡ refused_of number layer place }
+fn refused<'a>(number: u8, layer: u8, place: u8) -> Option<Answer<'a>>
+    ensures { option_map answer_value result ≡ option_map REFUSED (refused_of number layer place) }
 {
-    let why = Refusal::from_number(number)?;
-    if why.layer().number() == layer {
-        Some(Refused { why, place })
-    } else {
-        None
-    }
+    let why = Refusal::try_from(number).ok()?;
+    (u8::from(why.layer()) == layer).then_some(Answer::Refused(Refused { why, place }))
 }

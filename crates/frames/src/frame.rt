@@ -21,7 +21,8 @@ pub struct SpotBytes {
 }
 
 // One frame. `node` is a record's number. FILL borrows its card from the decoded line.
-#[derive(Clone, Copy)]
+// Each variant has its own `station`: a struct round a second enum would need two patterns in each arm that has one now.
+#[derive(Clone, Copy, PartialEq, Eq, Debug)]
 pub enum Frame<'a> {
     Setup(SetupBytes),
     Deref {

@@ -7,7 +7,7 @@ use crate::frame::{Frame, SetupBytes, SpotBytes};
 use crate::line::LineBytes;
 use crate::refusal::LineFault;
 
-// The first byte of each frame.
+// The first byte of each frame: constants, since the slice patterns that sort a line name them.
 const SETUP: u8 = 0x00;
 
 const DEREF: u8 = 0x01;
@@ -29,13 +29,17 @@ const FILL: u8 = 0x11;
 const READ: u8 = 0x12;
 
 // The frame that the bytes of a line are.
-pub fn frame_of<'a>(bytes: &'a [u8]) -> Result<Frame<'a>, LineFault>
-    ensures { Sorts bytes.now result }
-{
-    match bytes {
-        [SETUP, rest @ ..] => setup_frame(rest),
-        [op, station, rest @ ..] => of_station(*op, *station, rest),
-        _ => Err(LineFault::Shape),
+impl<'a> TryFrom<&'a [u8]> for Frame<'a> {
+    type Error = LineFault;
+
+    ghost try_from_gives = { λ bytes r. Sorts bytes.now r };
+
+    fn try_from(bytes: &'a [u8]) -> Result<Frame<'a>, LineFault> {
+        match bytes {
+            [SETUP, rest @ ..] => setup_frame(rest),
+            [op, station, rest @ ..] => of_station(*op, *station, rest),
+            _ => Err(LineFault::Shape),
+        }
     }
 }
 
@@ -43,18 +47,18 @@ pub fn frame_of<'a>(bytes: &'a [u8]) -> Result<Frame<'a>, LineFault>
 fn setup_frame<'a>(rest: &'a [u8]) -> Result<Frame<'a>, LineFault>
     ensures { SortsAs (setup_of rest.now) result }
 {
-    let [stations, slots, records, roots, t1, t2, kind, pool] = rest else {
+    let &[stations, slots, records, roots, t1, t2, kind, pool] = rest else {
         return Err(LineFault::Shape);
     };
     Ok(Frame::Setup(SetupBytes {
-        stations: *stations,
-        slots: *slots,
-        records: *records,
-        roots: *roots,
-        t1: *t1,
-        t2: *t2,
-        kind: *kind,
-        pool: *pool,
+        stations,
+        slots,
+        records,
+        roots,
+        t1,
+        t2,
+        kind,
+        pool,
     }))
 }
 
@@ -63,49 +67,33 @@ fn of_station<'a>(op: u8, station: u8, rest: &'a [u8]) -> Result<Frame<'a>, Line
     ensures { SortsAs (by_first op station rest.now) result }
 {
     match (op, rest) {
-        (DEREF, [a, b]) => Ok(Frame::Deref {
-            station,
-            spot: SpotBytes {
-                container: *a,
-                index: *b,
-            },
-        }),
-        (RELEASE, [node]) => Ok(Frame::Release {
-            station,
-            node: *node,
-        }),
-        (CAS, [a, b, old, new]) => Ok(Frame::Cas {
-            station,
-            spot: SpotBytes {
-                container: *a,
-                index: *b,
-            },
-            old: *old,
-            new: *new,
-        }),
-        (STORE, [a, b, new]) => Ok(Frame::Store {
-            station,
-            spot: SpotBytes {
-                container: *a,
-                index: *b,
-            },
-            new: *new,
-        }),
+        (DEREF, &[container, index]) => {
+            let spot = SpotBytes { container, index };
+            Ok(Frame::Deref { station, spot })
+        }
+        (RELEASE, &[node]) => Ok(Frame::Release { station, node }),
+        (CAS, &[container, index, old, new]) => {
+            let spot = SpotBytes { container, index };
+            Ok(Frame::Cas {
+                station,
+                spot,
+                old,
+                new,
+            })
+        }
+        (STORE, &[container, index, new]) => {
+            let spot = SpotBytes { container, index };
+            Ok(Frame::Store { station, spot, new })
+        }
         (NEW, []) => Ok(Frame::New { station }),
-        (DELETE, [node]) => Ok(Frame::Delete {
-            station,
-            node: *node,
-        }),
+        (DELETE, &[node]) => Ok(Frame::Delete { station, node }),
         (STEP, []) => Ok(Frame::Step { station }),
         (FILL, [node, card @ ..]) => Ok(Frame::Fill {
             station,
             node: *node,
             card,
         }),
-        (READ, [node]) => Ok(Frame::Read {
-            station,
-            node: *node,
-        }),
+        (READ, &[node]) => Ok(Frame::Read { station, node }),
         _ => Err(LineFault::Shape),
     }
 }

@@ -11,10 +11,8 @@ pub mod line;
 pub mod refusal;
 pub mod refusal_numbers;
 
-pub use answer::Answer;
-pub use answer_bytes::answer_of;
+pub use answer::{Answer, NoAnswer};
 pub use frame::{Frame, SetupBytes, SpotBytes};
-pub use frame_bytes::frame_of;
 pub use hex::{decode, encode};
 pub use line::{LineBytes, LineText};
-pub use refusal::{Layer, LineFault, Refusal, Refused};
+pub use refusal::{Layer, LineFault, Refusal, Refused, UnknownRefusal};

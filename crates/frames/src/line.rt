@@ -1,18 +1,57 @@
 // Room for one line: up to 64 bytes, and up to 128 digits with a newline. No memory is asked for.
-ghost use Rattle.std.specs.Prelude.{◌≤◌};
+ghost use Rattle.std.specs.Prelude.{◌≡◌, ◌≤◌, ◌++◌, length};
+ghost use Rattle.frames.specs.Hexadecimal.{line_bytes, text_digits, text_line, FitsLine};
+
+use arrayvec::ArrayVec;
 
 // The bytes of a line.
-#[derive(Clone, Copy)]
+#[derive(Clone, PartialEq, Eq, Debug, Drop)]
 pub struct LineBytes {
-    pub(crate) items: [u8; 64],
-    pub(crate) len: u8,
-    ghost short: { len ≤ 64 },
+    pub(crate) items: ArrayVec<u8, 64>,
+}
+
+impl LineBytes {
+    // Two stretches of bytes, one after the other, if they fit a line.
+    pub fn joined(head: &[u8], tail: &[u8]) -> Option<LineBytes>
+        ensures { FitsLine (head.now ++ tail.now) result }
+    {
+        let mut items = ArrayVec::new();
+        items.try_extend_from_slice(head).ok()?;
+        items.try_extend_from_slice(tail).ok()?;
+        Some(LineBytes { items })
+    }
+
+    pub fn as_slice(&self) -> &[u8]
+        ensures value { result.now ≡ line_bytes self.now }
+        ensures short { length result.now ≤ 64 }
+    {
+        self.items.as_slice()
+    }
 }
 
 // A line as it is written: its digits, and then a newline.
-#[derive(Clone, Copy)]
+#[derive(Clone, PartialEq, Eq, Debug, Drop)]
 pub struct LineText {
-    pub(crate) signs: [u8; 129],
-    pub(crate) len: u8,
-    ghost short: { len ≤ 128 },
+    pub(crate) signs: ArrayVec<u8, 129>,
+}
+
+impl LineText {
+    // The digits alone.
+    pub fn digits(&self) -> &[u8]
+        ensures value { result.now ≡ text_digits self.now }
+        ensures short { length result.now ≤ 128 }
+    {
+        match self.signs.split_last() {
+            Some((_newline, digits)) => digits,
+            None => &[],
+        }
+    }
+
+    // The digits and the newline, ready to be printed.
+    pub fn line(&self) -> &[u8]
+        ensures value { result.now ≡ text_line self.now }
+        ensures short { length result.now ≤ 129 }
+    {
+        self.signs.as_slice()
+    }
 }

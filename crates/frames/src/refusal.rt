@@ -1,30 +1,35 @@
-// Why a call is refused. `refusal_numbers` has each refusal's number and layer.
+// Why a call is refused. `refusal_numbers` takes the numbers out and back, and has each refusal's layer.
 
+// A refusal, with the number that is printed.
 #[derive(Clone, Copy, PartialEq, Eq, Debug)]
 pub enum Refusal {
-    Digits,
-    Shape,
-    Setup,
-    Station,
-    Range,
-    Card,
-    Table,
-    Busy,
-    Idle,
-    NotHeld,
-    Slots,
-    NotFresh,
-    Fresh,
-    Retired,
-    List,
+    Digits = 1,
+    Shape = 2,
+    Setup = 3,
+    Station = 4,
+    Range = 5,
+    Card = 6,
+    Table = 7,
+    Busy = 8,
+    Idle = 9,
+    NotHeld = 10,
+    Slots = 11,
+    NotFresh = 12,
+    Fresh = 13,
+    Retired = 14,
+    List = 15,
 }
 
-// Which part tells the refusal.
+// A number that no refusal has.
+#[derive(Clone, Copy, PartialEq, Eq, Debug)]
+pub struct UnknownRefusal(pub u8);
+
+// Which part tells the refusal, with its number.
 #[derive(Clone, Copy, PartialEq, Eq, Debug)]
 pub enum Layer {
-    Line,
-    Table,
-    Card,
+    Line = 1,
+    Table = 2,
+    Card = 3,
 }
 
 // A refusal, and the place of the faulty byte in the frame, from 0.

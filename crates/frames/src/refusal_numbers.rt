@@ -1,57 +1,47 @@
 // The number and the layer of each refusal.
 ghost use Rattle.std.specs.Prelude.{◌≡◌};
-ghost use Rattle.frames.specs.Refusals.{number_of, layer_of, layer_number, refusal_of, line_refused};
+ghost use Rattle.frames.specs.Refusals.{number_of, layer_of, layer_number, HasNumber, line_refused};
 
-use crate::refusal::{Layer, LineFault, Refusal, Refused};
+use crate::refusal::{Layer, LineFault, Refusal, Refused, UnknownRefusal};
+
+// 1 to 15.
+impl From<Refusal> for u8 {
+    ghost from_gives = { λ why number. number ≡ number_of why };
+
+    fn from(why: Refusal) -> u8 {
+        why as u8
+    }
+}
+
+// The refusal that has the number, or the number where none has it.
+impl TryFrom<u8> for Refusal {
+    type Error = UnknownRefusal;
+
+    ghost try_from_gives = { HasNumber };
+
+    fn try_from(number: u8) -> Result<Refusal, UnknownRefusal> {
+        match number {
+            1 => Ok(Refusal::Digits),
+            2 => Ok(Refusal::Shape),
+            3 => Ok(Refusal::Setup),
+            4 => Ok(Refusal::Station),
+            5 => Ok(Refusal::Range),
+            6 => Ok(Refusal::Card),
+            7 => Ok(Refusal::Table),
+            8 => Ok(Refusal::Busy),
+            9 => Ok(Refusal::Idle),
+            10 => Ok(Refusal::NotHeld),
+            11 => Ok(Refusal::Slots),
+            12 => Ok(Refusal::NotFresh),
+            13 => Ok(Refusal::Fresh),
+            14 => Ok(Refusal::Retired),
+            15 => Ok(Refusal::List),
+            _ => Err(UnknownRefusal(number)),
+        }
+    }
+}
 
 impl Refusal {
-    // 1 to 15.
-    pub fn number(self) -> u8
-        ensures { result ≡ number_of self }
-    {
-        match self {
-            Refusal::Digits => 1,
-            Refusal::Shape => 2,
-            Refusal::Setup => 3,
-            Refusal::Station => 4,
-            Refusal::Range => 5,
-            Refusal::Card => 6,
-            Refusal::Table => 7,
-            Refusal::Busy => 8,
-            Refusal::Idle => 9,
-            Refusal::NotHeld => 10,
-            Refusal::Slots => 11,
-            Refusal::NotFresh => 12,
-            Refusal::Fresh => 13,
-            Refusal::Retired => 14,
-            Refusal::List => 15,
-        }
-    }
-
-    // The refusal that has the number, if one has.
-    pub fn from_number(number: u8) -> Option<Refusal>
-        ensures { result ≡ refusal_of number }
-    {
-        match number {
-            1 => Some(Refusal::Digits),
-            2 => Some(Refusal::Shape),
-            3 => Some(Refusal::Setup),
-            4 => Some(Refusal::Station),
-            5 => Some(Refusal::Range),
-            6 => Some(Refusal::Card),
-            7 => Some(Refusal::Table),
-            8 => Some(Refusal::Busy),
-            9 => Some(Refusal::Idle),
-            10 => Some(Refusal::NotHeld),
-            11 => Some(Refusal::Slots),
-            12 => Some(Refusal::NotFresh),
-            13 => Some(Refusal::Fresh),
-            14 => Some(Refusal::Retired),
-            15 => Some(Refusal::List),
-            _ => None,
-        }
-    }
-
     pub fn layer(self) -> Layer
         ensures { result ≡ layer_of self }
     {
@@ -63,16 +53,12 @@ impl Refusal {
     }
 }
 
-impl Layer {
-    // 1 to 3.
-    pub fn number(self) -> u8
-        ensures { result ≡ layer_number self }
-    {
-        match self {
-            Layer::Line => 1,
-            Layer::Table => 2,
-            Layer::Card => 3,
-        }
+// 1 to 3.
+impl From<Layer> for u8 {
+    ghost from_gives = { λ layer number. number ≡ layer_number layer };
+
+    fn from(layer: Layer) -> u8 {
+        layer as u8
     }
 }
 
@@ -81,15 +67,10 @@ impl From<LineFault> for Refused {
     ghost from_gives = { λ e r. r ≡ line_refused e };
 
     fn from(fault: LineFault) -> Refused {
-        match fault {
-            LineFault::Digits => Refused {
-                why: Refusal::Digits,
-                place: 0,
-            },
-            LineFault::Shape => Refused {
-                why: Refusal::Shape,
-                place: 0,
-            },
-        }
+        let why = match fault {
+            LineFault::Digits => Refusal::Digits,
+            LineFault::Shape => Refusal::Shape,
+        };
+        Refused { why, place: 0 }
     }
 }

@@ -3,7 +3,8 @@
 
 #[cfg(test)]
 mod tests {
-    use frames::{Frame, LineFault, LineText, answer_of, decode, encode, frame_of};
+    use frames::{Answer, Frame, LineFault, LineText, decode, encode};
+    use std::process::Abort;
     use std::test::Fail;
 
     // A line, and what its frame is written back as, or the refusal.
@@ -120,7 +121,7 @@ FF0100 none\n\
 
     fn frame_back(line: &[u8]) -> Result<LineText, LineFault> {
         let bytes = decode(line)?;
-        let frame = frame_of(bytes.as_slice())?;
+        let frame = Frame::try_from(bytes.as_slice())?;
         let back = frame.bytes().ok_or(LineFault::Shape)?;
         Ok(encode(&back))
     }
@@ -134,38 +135,38 @@ FF0100 none\n\
 
     fn answer_back(line: &[u8]) -> Option<LineText> {
         let bytes = decode(line).ok()?;
-        let back = answer_of(bytes.as_slice())?.bytes()?;
+        let back = Answer::try_from(bytes.as_slice()).ok()?.bytes()?;
         Some(encode(&back))
+    }
+
+    // Each row has a line, and what `back` makes of it or says of it.
+    fn rows_hold<'a, F: Fn(&[u8]) -> Result<LineText, &'a str>>(
+        rt: &impl Abort,
+        rows: &str,
+        back: F,
+    ) -> Result<(), Fail>
+        requires { F.IsAlwaysCallable back }
+    {
+        for row in rows.split('\n') {
+            let (line, want) = row.split_once(' ').ok_or("no space")?;
+            match back(line.as_bytes()) {
+                Ok(text) => assert!(rt; text.digits() == want.as_bytes(), "{}", row),
+                Err(said) => assert!(rt; want == said, "{}", row),
+            }
+        }
+        Ok(())
     }
 
     #[test]
     fn frames_and_refusals(rt: HostRuntime) -> Result<(), Fail> {
-        let mut count = 0u32;
-        for row in LINES.split('\n') {
-            let (line, want) = row.split_once(' ').ok_or("no space")?;
-            match frame_back(line.as_bytes()) {
-                Ok(text) => assert!(rt; text.digits() == want.as_bytes(), "{}", row),
-                Err(fault) => assert!(rt; want == refusal(fault), "{}", row),
-            }
-            count = count.saturating_add(1);
-        }
-        assert_eq!(rt; count, 70);
-        Ok(())
+        assert_eq!(rt; LINES.split('\n').count(), 70);
+        rows_hold(&rt, LINES, |line| frame_back(line).map_err(refusal))
     }
 
     #[test]
     fn answers(rt: HostRuntime) -> Result<(), Fail> {
-        let mut count = 0u32;
-        for row in ANSWERS.split('\n') {
-            let (line, want) = row.split_once(' ').ok_or("no space")?;
-            match answer_back(line.as_bytes()) {
-                Some(text) => assert!(rt; text.digits() == want.as_bytes(), "{}", row),
-                None => assert!(rt; want == "none", "{}", row),
-            }
-            count = count.saturating_add(1);
-        }
-        assert_eq!(rt; count, 38);
-        Ok(())
+        assert_eq!(rt; ANSWERS.split('\n').count(), 38);
+        rows_hold(&rt, ANSWERS, |line| answer_back(line).ok_or("none"))
     }
 
     // Lines of 0 to 66 bytes, and with one digit more.

@@ -1,7 +1,7 @@
--- The card is what is left of the line.
-use Rattle.std.proofs.Common.{rules}
-use Rattle.frames.proofs.Sorting.{fill_is}
+-- Any other first byte, or another length, is no frame.
+use Rattle.std.proofs.Common.{arith}
+use Rattle.std.proofs.lemmas.Bool.Decides.{nat_tests}
 use Rattle.frames.proofs.frame_bytes.of_station.Goals as goal
 
-pub returns-in-17-len1-up : goal.returns-in-17-len1-up
-returns-in-17-len1-up c = fill_is c.args.op c.args.station c.args.rest.now (search rules) (search rules)
+pub returns-in_default : goal.returns-in_default
+returns-in_default c = grind (arith, nat_tests)

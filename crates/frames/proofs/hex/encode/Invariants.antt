@@ -1,10 +1,9 @@
--- The digits so far and those of what is left are those of all bytes.
-use Rattle.std.proofs.Common.{◌≡◌, ◌+◌, ◌++◌, length, take, drop}
+-- The digits so far and those of the bytes that are left are those of all bytes.
+use Rattle.std.proofs.Common.{◌≡◌, ◌+◌, ◌++◌, length, drop}
 use Rattle.frames.specs.Hexadecimal.{written}
 use Rattle.frames.proofs.hex.encode.Given as goal
 
-abbrev pub invariant-loop-b : goal.invariant-loop-b
-invariant-loop-b l =
-    (take l.len l.signs ++ written (drop l.b-index l.items) ≡ written l.items)
-    × (l.len ≡ l.b-index + l.b-index)
-    × (length l.signs ≡ 129)
+abbrev pub invariant-loop-byte : goal.invariant-loop-byte
+invariant-loop-byte l =
+    (l.signs.items ++ written (drop l.byte-index l.byte-items) ≡ written l.byte-items)
+    × (length l.signs.items ≡ l.byte-index + l.byte-index)

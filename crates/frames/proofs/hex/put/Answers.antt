@@ -1,7 +1,0 @@
--- What was written stands where it was written.
-use Rattle.std.proofs.Common.{rules}
-use Rattle.std.proofs.lemmas.Slice.{overwrites}
-use Rattle.frames.proofs.hex.put.Goals as goal
-
-pub returns : goal.returns
-returns c = search (rules, overwrites)
