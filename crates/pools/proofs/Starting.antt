@@ -5,7 +5,8 @@ use Rattle.std.proofs.Math.ListN.{get_or-append}
 use Rattle.std.proofs.lemmas.Bool.{and_from, and_left, not_from_false, lt-leb, ltb-true, lt-ltb, le-ltb, cases_lt}
 use Rattle.std.proofs.lemmas.Bool.Decides.{nat_tests}
 use Rattle.std.specs.List.{range_with_len}
-use Rattle.pools.specs.Orders.{listed, apart, Kept}
+use Rattle.pools.specs.Sets.{numbers_below}
+use Rattle.pools.specs.Orders.{listed, apart, marked, Kept}
 
 listed_counting : (a n x : ℕ) → listed (range_with_len a n) x ≡ (leb a x && ltb x (a + n))
 listed_counting a zero x = grind (arith, nat_tests)
@@ -24,12 +25,12 @@ listed_all m x =
     grind (arith, nat_tests, e)
 
 -- every record of the table, from 0 upward
-pub kept_new : (order : List ℕ) (members : List Bool) (m : ℕ) → order ≡ range_with_len 0 m → ((x : ℕ) → get_or members x false ≡ ltb x m) → m ≤ 128 → length members ≡ 128 → Kept order members m
+pub kept_new : (order : List ℕ) (members : List Bool) (m : ℕ) → order ≡ range_with_len 0 m → marked members ≡ numbers_below m → m ≤ 128 → length members ≡ 128 → Kept order members m
 kept_new order members m e marks few long =
     subst (λ o. Kept o members m) (sym e)
     record {
       once = apart_counting 0 m;
-      marks = λ x. marks x ∙ sym (listed_all m x);
+      marks = λ x. ap (λ (s : ℕ → Bool). s x) marks ∙ sym (listed_all m x);
       inside = λ x h. ltb-true x m (sym (listed_all m x) ∙ h);
       few = few;
       places = long;

@@ -38,11 +38,15 @@ abbrev pub queued : List ℕ → ℕ → ℕ → List ℕ
 queued items place zero = []
 queued items place (suc n) = slice_index items place ∷ queued items (wrapped (place + 1)) n
 
+-- the numbers whose place in a row of marks is marked
+abbrev pub marked : List Bool → ℕ → Bool
+marked members x = slice_index_or members x false
+
 -- What a pool keeps from call to call: its order has no number twice, `members` tells for each number whether it
 -- stands in the order, and each that does is below the size.
 pub record Kept (order : List ℕ) (members : List Bool) (size : ℕ) : Type 0 where
   pub once : apart order ≡ true
-  pub marks : (x : ℕ) → slice_index_or members x false ≡ listed order x
+  pub marks : (x : ℕ) → marked members x ≡ listed order x
   pub inside : (x : ℕ) → listed order x ≡ true → x < size
   pub few : size ≤ 128
   pub places : length members ≡ 128

@@ -1,8 +1,8 @@
 // A pool whose members wait in a line, which a stack and a ring are.
-ghost use Rattle.std.specs.Prelude.{◌≡◌, ℕ, ◌<◌, ◌≤◌, false, if◌then◌else◌, MatchResult, nat_lt, slice_index_or};
+ghost use Rattle.std.specs.Prelude.{◌≡◌, ℕ, ◌<◌, ◌≤◌, false, if◌then◌else◌, MatchResult, nat_lt};
 ghost use Rattle.std.specs.List.{range_with_len};
 ghost use Rattle.pools.specs.Sets.{numbers_below, without, given};
-ghost use Rattle.pools.specs.Orders.{front, rest, Kept};
+ghost use Rattle.pools.specs.Orders.{front, rest, marked, Kept};
 ghost use Rattle.std.proofs.Common.{rules};
 
 use crate::line::Line;
@@ -22,7 +22,7 @@ pub struct LinePool<L: Line> {
 }
 
 impl<L: Line> Pool for LinePool<L> {
-    ghost has = { λ p x. slice_index_or p.members x false };
+    ghost has = { λ p. marked p.members };
 
     ghost size = { λ p. p.size };
 
@@ -37,7 +37,7 @@ impl<L: Line> Pool for LinePool<L> {
     ghost few = { Prim.search rules };
 
     fn new(settings: &Settings) -> Self
-        ensures full { (λ x. slice_index_or result.members x false) ≡ numbers_below settings.now.records }
+        ensures full { marked result.members ≡ numbers_below settings.now.records }
         ensures size { result.size ≡ settings.now.records }
         ensures order { L.order result.line ≡ range_with_len 0 settings.now.records }
     {
@@ -50,7 +50,7 @@ impl<L: Line> Pool for LinePool<L> {
 
     fn take(&mut self) -> Option<u8>
         ensures value { result ≡ front (L.order self.old.line) }
-        ensures after { (λ x. slice_index_or self.new.members x false) ≡ without (front (L.order self.old.line)) (λ x. slice_index_or self.old.members x false) }
+        ensures after { marked self.new.members ≡ without (front (L.order self.old.line)) (marked self.old.members) }
         ensures size { self.new.size ≡ self.old.size }
         ensures order { L.order self.new.line ≡ rest (L.order self.old.line) }
     {
@@ -61,7 +61,7 @@ impl<L: Line> Pool for LinePool<L> {
 
     fn give(&mut self, node: u8) -> Result<(), OutOfPool>
         ensures answer { MatchResult result (λ _. node < self.old.size) (λ e. (self.old.size ≤ node) × (e.node ≡ node)) }
-        ensures after { (λ x. slice_index_or self.new.members x false) ≡ given self.old.size node (λ x. slice_index_or self.old.members x false) }
+        ensures after { marked self.new.members ≡ given self.old.size node (marked self.old.members) }
         ensures size { self.new.size ≡ self.old.size }
         ensures order { L.order self.new.line ≡ (if nat_lt node self.old.size then L.joined (L.order self.old.line) node else L.order self.old.line) }
     {

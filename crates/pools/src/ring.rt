@@ -13,8 +13,8 @@ const PLACES: u8 = 128;
 
 #[derive(Drop)]
 pub struct LongestRestedFirst {
-    // from `head` on and past the end to the start; the next to be taken lies at `head`. A buffer of its own: a take must cost
-    // the same whatever the number of records, and the kit's vector without heap would move all the others
+    // from `head` on and past the end to the start; the next to be taken lies at `head`
+    // its own buffer and length: a take costs the same whatever the number of records, where `ArrayVec` moves all but the first
     items: [u8; 128],
     head: u8,
     len: u8,

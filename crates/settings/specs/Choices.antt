@@ -14,12 +14,7 @@ abbrev pub pool_number : PoolChoice → ℕ
 pool_number Stack = 0
 pool_number Ring = 1
 
--- The kind of this number; from 2 on there is none, and the error says which number it was.
-abbrev pub NamesKind : ℕ → Result KindChoice UnknownChoice → Type 0
-NamesKind n (Ok k) = kind_number k ≡ n
-NamesKind n (Err e) = (2 ≤ n) × (e.number ≡ n)
-
--- The pool of this number; from 2 on there is none, and the error says which number it was.
-abbrev pub NamesPool : ℕ → Result PoolChoice UnknownChoice → Type 0
-NamesPool n (Ok p) = pool_number p ≡ n
-NamesPool n (Err e) = (2 ≤ n) × (e.number ≡ n)
+-- The choice of this number; from 2 on there is none, and the error says which number it was.
+abbrev pub Names : {Choice : Type 0} → (Choice → ℕ) → ℕ → Result Choice UnknownChoice → Type 0
+Names number_of n (Ok choice) = number_of choice ≡ n
+Names number_of n (Err e) = (2 ≤ n) × (e.number ≡ n)

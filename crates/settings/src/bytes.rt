@@ -21,6 +21,7 @@ pub enum SetupByte {
 
 impl SetupByte {
     // Its place in the line; the byte at place 0 says that the line is a SETUP.
+    // A method: `u8::from` would read as the value of the byte.
     pub fn place(self) -> u8
         ensures { result ≡ place_of self }
     {
