@@ -34,7 +34,7 @@ impl Follow {
     pub fn after(&self, x: u8) -> Option<u8>
         ensures value { result ≡ following_of self.now.positions (λ y. slice_index self.now.next y) x }
     {
-        let next = &self.next[..usize::from(self.positions)];
-        next.get(usize::from(x)).copied()
+        let next = &self.next[..self.positions as usize];
+        next.get(x as usize).copied()
     }
 }

@@ -7,8 +7,8 @@ use Rattle.pools.specs.Joining.{Joins, put_first_joins}
 use Rattle.pools.proofs.Distinct.{length_below}
 
 -- a mark after one is written
-marked : (members : List Bool) (node x : ℕ) (b : Bool) → node < length members → get_or (set members node b) x false ≡ cond (eqb x node) b (get_or members x false)
-marked members node x b l = ⊎_elim here other (cases_eq x node)
+mark_written : (members : List Bool) (node x : ℕ) (b : Bool) → node < length members → get_or (set members node b) x false ≡ cond (eqb x node) b (get_or members x false)
+mark_written members node x b l = ⊎_elim here other (cases_eq x node)
   where
     here : x ≡ node → get_or (set members node b) x false ≡ cond (eqb x node) b (get_or members x false)
     here e = let w = get_or-set_same members node b false l in grind (arith, nat_tests, w)
@@ -20,7 +20,7 @@ marked members node x b l = ⊎_elim here other (cases_eq x node)
 kept_joined : (joined : List ℕ → ℕ → List ℕ) → Joins joined → (order : List ℕ) (members : List Bool) (size node : ℕ) → Kept order members size → node < size → Kept (joined order node) (set members node true) size
 kept_joined joined j order members size node k l = record {
   once = j.keeps_apart order node k.once;
-  marks = λ x. let w = marked members node x true (omega (arith, k.few, k.places)) in let m = k.marks x in let n = j.lists order node x in grind (arith, nat_tests, w, m, n);
+  marks = λ x. let w = mark_written members node x true (omega (arith, k.few, k.places)) in let m = k.marks x in let n = j.lists order node x in grind (arith, nat_tests, w, m, n);
   inside = λ x h. let n = j.lists order node x in let i = k.inside x in grind (arith, nat_tests, n, i, h);
   few = k.few;
   places = length-set members node true ∙ k.places;
@@ -42,7 +42,7 @@ kept_rest (first ∷ order) members size node k e =
     let l : node < size = kept_front (first ∷ order) members size node k e in
     record {
       once = p.1;
-      marks = λ x. let w = marked members node x false (omega (arith, k.few, k.places)) in let m = k.marks x in grind (arith, nat_tests, w, m, gone);
+      marks = λ x. let w = mark_written members node x false (omega (arith, k.few, k.places)) in let m = k.marks x in grind (arith, nat_tests, w, m, gone);
       inside = λ x h. k.inside x (or_right _ _ h);
       few = k.few;
       places = length-set members node false ∙ k.places;

@@ -42,13 +42,13 @@ same_everywhere n x = ⊎_elim (λ l. get_or-replicate n x false false l) (λ l.
 
 -- the marks of the first `m` numbers, of 128
 pub marks_of : (front : List Bool) (m x : ℕ) → front ≡ replicate m true → get_or (front ++ drop m (replicate 128 false)) x false ≡ ltb x m
-marks_of front m x e = ap (λ f. get_or (f ++ drop m (replicate 128 false)) x false) e ∙ ⊎_elim marked unmarked (cases_lt x m)
+marks_of front m x e = ap (λ f. get_or (f ++ drop m (replicate 128 false)) x false) e ∙ ⊎_elim below past (cases_lt x m)
   where
     long : length (replicate m true) ≡ m
     long = length-replicate m true
 
-    marked : x < m → get_or (replicate m true ++ drop m (replicate 128 false)) x false ≡ ltb x m
-    marked l = get_or-append (replicate m true) _ false x (omega (arith, long)) ∙ get_or-replicate m x true false l ∙ sym (lt-ltb x m l)
+    below : x < m → get_or (replicate m true ++ drop m (replicate 128 false)) x false ≡ ltb x m
+    below l = get_or-append (replicate m true) _ false x (omega (arith, long)) ∙ get_or-replicate m x true false l ∙ sym (lt-ltb x m l)
 
-    unmarked : m ≤ x → get_or (replicate m true ++ drop m (replicate 128 false)) x false ≡ ltb x m
-    unmarked l = get_or-append_right (replicate m true) _ m x false long l ∙ get_or-drop m (replicate 128 false) (x - m) false ∙ same_everywhere 128 (m + (x - m)) ∙ sym (le-ltb x m l)
+    past : m ≤ x → get_or (replicate m true ++ drop m (replicate 128 false)) x false ≡ ltb x m
+    past l = get_or-append_right (replicate m true) _ m x false long l ∙ get_or-drop m (replicate 128 false) (x - m) false ∙ same_everywhere 128 (m + (x - m)) ∙ sym (le-ltb x m l)

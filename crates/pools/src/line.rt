@@ -6,7 +6,7 @@ ghost use Rattle.pools.specs.Joining.{Joins};
 
 use settings::Settings;
 
-pub trait Line: Sized {
+pub(crate) trait Line: Sized {
     // the records that wait, in the order of the takes
     ghost order: { Self → List ℕ };
 

@@ -1,5 +1,5 @@
 // The bytes of a SETUP line, by name.
-ghost use Rattle.std.specs.Prelude.{◌≡◌, Some, false};
+ghost use Rattle.std.specs.Prelude.{◌≡◌, ◌≤◌, Some, false, IfOk};
 ghost use Rattle.std.specs.Range.{range_inclusive_start, range_inclusive_end, range_inclusive_exhausted};
 ghost use Rattle.settings.specs.Bytes.{place_of, words_of};
 ghost use Rattle.settings.specs.Faults.{Checks};
@@ -69,7 +69,8 @@ pub(crate) fn checked(
     byte: SetupByte,
 ) -> Result<u8, SetupByte>
     requires { range_inclusive_exhausted limits ≡ false }
-    ensures { Checks value (range_inclusive_start limits) (range_inclusive_end limits) byte result }
+    ensures value { Checks value (range_inclusive_start limits) (range_inclusive_end limits) byte result }
+    ensures within { IfOk result (λ v. (range_inclusive_start limits ≤ v) × (v ≤ range_inclusive_end limits)) }
 {
     if limits.contains(&value) {
         Ok(value)
