@@ -68,8 +68,7 @@ pub(crate) fn checked(
     limits: RangeInclusive<u8>,
     byte: SetupByte,
 ) -> Result<u8, SetupByte>
-    requires { range_inclusive_exhausted limits ≡ false }
-    ensures value { Checks value (range_inclusive_start limits) (range_inclusive_end limits) byte result }
+    ensures value { range_inclusive_exhausted limits ≡ false → Checks value (range_inclusive_start limits) (range_inclusive_end limits) byte result }
     ensures within { IfOk result (λ v. (range_inclusive_start limits ≤ v) × (v ≤ range_inclusive_end limits)) }
 {
     if limits.contains(&value) {
