@@ -1,6 +1,6 @@
 // A book: each record has three links, to the next, to its origin and to its replacement.
 ghost use Rattle.std.specs.Prelude.{◌≡◌, ℕ};
-ghost use Rattle.layouts.specs.Books.{link_number, link_following, book_follow, NamesLink};
+ghost use Rattle.layouts.specs.Books.{link_number, link_following, book_follow, DecodesLink};
 ghost use Rattle.std.proofs.Common.{rules};
 
 use crate::layout::Layout;
@@ -23,7 +23,7 @@ pub struct UnknownLink {
 impl TryFrom<u8> for BookLink {
     type Error = UnknownLink;
 
-    ghost try_from_gives = { NamesLink };
+    ghost try_from_gives = { DecodesLink };
 
     fn try_from(number: u8) -> Result<BookLink, UnknownLink> {
         match number {

@@ -1,5 +1,5 @@
 // What a SETUP line names by number: a card kind with its links, and a pool.
-ghost use Rattle.settings.specs.Choices.{kind_number, pool_number, Names};
+ghost use Rattle.settings.specs.Choices.{kind_number, pool_number, NamesKind, NamesPool, Decodes};
 ghost use Rattle.std.specs.Prelude.{◌≡◌};
 
 #[derive(Clone, Copy, PartialEq, Eq, Debug)]
@@ -23,7 +23,7 @@ pub struct UnknownChoice {
 impl TryFrom<u8> for KindChoice {
     type Error = UnknownChoice;
 
-    ghost try_from_gives = { Names kind_number };
+    ghost try_from_gives = { Decodes NamesKind };
 
     fn try_from(number: u8) -> Result<KindChoice, UnknownChoice> {
         match number {
@@ -48,7 +48,7 @@ impl From<KindChoice> for u8 {
 impl TryFrom<u8> for PoolChoice {
     type Error = UnknownChoice;
 
-    ghost try_from_gives = { Names pool_number };
+    ghost try_from_gives = { Decodes NamesPool };
 
     fn try_from(number: u8) -> Result<PoolChoice, UnknownChoice> {
         match number {
