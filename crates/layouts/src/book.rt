@@ -1,6 +1,6 @@
 // A book: each record has three links, to the next, to its origin and to its replacement.
 ghost use Rattle.std.specs.Prelude.{◌≡◌, ℕ};
-ghost use Rattle.layouts.specs.Books.{link_number, link_following, book_follow, NamesLink};
+ghost use Rattle.layouts.specs.Books.{link_number, link_following, book_follow, DecodesLink};
 ghost use Rattle.std.proofs.Common.{rules};
 
 use crate::layout::Layout;
@@ -14,28 +14,40 @@ pub enum BookLink {
     Replacement,
 }
 
-impl BookLink {
-    pub fn from_number(number: u8) -> Option<BookLink>
-        ensures { NamesLink number result }
-    {
+// A number that is no link of a book.
+#[derive(Clone, Copy, PartialEq, Eq, Debug)]
+pub struct UnknownLink {
+    pub number: u8,
+}
+
+impl TryFrom<u8> for BookLink {
+    type Error = UnknownLink;
+
+    ghost try_from_gives = { DecodesLink };
+
+    fn try_from(number: u8) -> Result<BookLink, UnknownLink> {
         match number {
-            0 => Some(BookLink::Next),
-            1 => Some(BookLink::Origin),
-            2 => Some(BookLink::Replacement),
-            _ => None,
+            0 => Ok(BookLink::Next),
+            1 => Ok(BookLink::Origin),
+            2 => Ok(BookLink::Replacement),
+            _ => Err(UnknownLink { number }),
         }
     }
+}
 
-    pub fn number(self) -> u8
-        ensures { result ≡ link_number self }
-    {
-        match self {
+impl From<BookLink> for u8 {
+    ghost from_gives = { λ link number. number ≡ link_number link };
+
+    fn from(link: BookLink) -> u8 {
+        match link {
             BookLink::Next => 0,
             BookLink::Origin => 1,
             BookLink::Replacement => 2,
         }
     }
+}
 
+impl BookLink {
     // The link by which a search goes on from a record that was found withdrawn.
     pub fn following(self) -> BookLink
         ensures name { result ≡ link_following self }
@@ -43,8 +55,7 @@ impl BookLink {
     {
         match self {
             BookLink::Next => BookLink::Next,
-            BookLink::Origin => BookLink::Replacement,
-            BookLink::Replacement => BookLink::Replacement,
+            BookLink::Origin | BookLink::Replacement => BookLink::Replacement,
         }
     }
 }
@@ -68,9 +79,7 @@ impl Layout for Book {
     }
 
     fn follow(x: u8) -> Option<u8> {
-        match BookLink::from_number(x) {
-            Some(link) => Some(link.following().number()),
-            None => None,
-        }
+        let link = BookLink::try_from(x).ok()?;
+        Some(link.following().into())
     }
 }

@@ -26,6 +26,6 @@ impl Layout for Chain {
     }
 
     fn follow(x: u8) -> Option<u8> {
-        if x == NEXT { Some(NEXT) } else { None }
+        (x < POSITIONS).then_some(NEXT)
     }
 }

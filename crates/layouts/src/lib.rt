@@ -6,8 +6,7 @@ pub mod chain;
 pub mod follow;
 pub mod layout;
 
-pub use book::{Book, BookLink};
+pub use book::{Book, BookLink, UnknownLink};
 pub use chain::Chain;
-pub use follow::Follow;
-pub use follow::calls::follows;
+pub use follow::{Follow, follows};
 pub use layout::Layout;

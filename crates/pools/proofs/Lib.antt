@@ -1,6 +1,5 @@
-pub mod Counts
+pub mod Distinct
 pub mod Keeping
 pub mod Starting
-pub mod Stacking
 pub mod Queueing
 pub mod Draining

@@ -2,4 +2,5 @@ pub mod Sets
 pub mod Orders
 pub mod Stacks
 pub mod Rings
+pub mod Joining
 pub mod Issues

@@ -29,11 +29,6 @@ put_first xs x = cond (listed xs x) xs (x ∷ xs)
 abbrev pub put_last : List ℕ → ℕ → List ℕ
 put_last xs x = cond (listed xs x) xs (xs ++ x ∷ [])
 
--- the first n items, the last of them first
-abbrev pub stacked : List ℕ → ℕ → List ℕ
-stacked items zero = []
-stacked items (suc n) = slice_index items n ∷ stacked items n
-
 -- places run from 0 to 127, and 0 follows 127
 abbrev pub wrapped : ℕ → ℕ
 wrapped place = cond (nat_lt place 128) place (place - 128)
@@ -43,12 +38,15 @@ abbrev pub queued : List ℕ → ℕ → ℕ → List ℕ
 queued items place zero = []
 queued items place (suc n) = slice_index items place ∷ queued items (wrapped (place + 1)) n
 
+-- the numbers whose place in a row of marks is marked
+abbrev pub marked : List Bool → ℕ → Bool
+marked members x = slice_index_or members x false
+
 -- What a pool keeps from call to call: its order has no number twice, `members` tells for each number whether it
 -- stands in the order, and each that does is below the size.
-abbrev pub Kept : List ℕ → List Bool → ℕ → Type 0
-Kept order members size =
-    (apart order ≡ true)
-    × ((x : ℕ) → slice_index_or members x false ≡ listed order x)
-    × ((x : ℕ) → listed order x ≡ true → x < size)
-    × (size ≤ 128)
-    × (length members ≡ 128)
+pub record Kept (order : List ℕ) (members : List Bool) (size : ℕ) : Type 0 where
+  pub once : apart order ≡ true
+  pub marks : (x : ℕ) → marked members x ≡ listed order x
+  pub inside : (x : ℕ) → listed order x ≡ true → x < size
+  pub few : size ≤ 128
+  pub places : length members ≡ 128

@@ -1,7 +1,6 @@
 -- The order of a stack. Assumes nothing.
-use Rattle.std.specs.Prelude.{ℕ, List}
-use Rattle.pools.specs.declared.stack.Stack.{Stack}
-use Rattle.pools.specs.Orders.{stacked}
+use Rattle.std.specs.Prelude.{ℕ, List, reverse}
+use Rattle.pools.specs.declared.stack.LatestFirst.{LatestFirst}
 
-abbrev pub stack_order : Stack → List ℕ
-stack_order s = stacked s.items s.len
+abbrev pub stack_order : LatestFirst → List ℕ
+stack_order s = reverse s.items.items

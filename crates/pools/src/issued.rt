@@ -1,10 +1,7 @@
 // The records that a pool issued, in the order of the takes.
-ghost use Rattle.std.specs.Prelude.{◌≤◌};
+use arrayvec::ArrayVec;
 
-#[derive(Clone, Copy, Debug)]
+#[derive(Debug, Drop)]
 pub struct Issued {
-    pub nodes: [u8; 128],
-    // how many of them, from the first on
-    pub count: u8,
-    ghost few: { count ≤ 128 },
+    pub nodes: ArrayVec<u8, 128>,
 }

@@ -6,6 +6,7 @@ ghost use Rattle.pools.specs.Issues.{issued, IssuesAgain};
 
 use crate::issued::Issued;
 use crate::pool::{OutOfPool, Pool};
+use arrayvec::ArrayVec;
 
 // Takes one: a member, which is one no longer; or none, and then the pool was empty.
 pub fn take_member<P: Pool>(pool: &mut P) -> Option<u8>
@@ -23,13 +24,11 @@ pub fn drain<P: Pool>(pool: &mut P) -> Issued
     ensures empty { P.Pool.has pool.new ≡ nothing }
     ensures size { P.Pool.size pool.new ≡ P.Pool.size pool.old }
 {
-    let mut nodes = [0; 128];
-    let mut count = 0;
+    let mut nodes = ArrayVec::new();
     while let Some(node) = pool.take() {
-        nodes[count as usize] = node;
-        count += 1;
+        nodes.push(node);
     }
-    Issued { nodes, count }
+    Issued { nodes }
 }
 
 // What is given is issued again: gives a record and then takes until none is left.

@@ -3,6 +3,8 @@
 
 pub mod issued;
 pub mod laws;
+mod line;
+pub mod line_pool;
 mod members;
 pub mod pool;
 pub mod ring;

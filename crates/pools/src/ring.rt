@@ -1,19 +1,70 @@
 // A pool that issues the longest rested first.
-ghost use Rattle.std.specs.Prelude.{◌<◌};
-ghost use Rattle.pools.specs.Orders.{queued, Kept};
+ghost use Rattle.std.specs.Prelude.{◌≡◌, ◌<◌, ◌≤◌};
+ghost use Rattle.pools.specs.Orders.{wrapped};
 
-pub mod calls;
+use crate::line::Line;
+use crate::line_pool::LinePool;
+use settings::Settings;
+use std::array;
+
+pub type Ring = LinePool<LongestRestedFirst>;
+
+const PLACES: u8 = 128;
 
 #[derive(Drop)]
-pub struct Ring {
-    // the members, from `head` on and past the end to the start; the next to be taken lies at `head`
+pub struct LongestRestedFirst {
+    // from `head` on and past the end to the start; the next to be taken lies at `head`
+    // its own buffer and length: a take costs the same whatever the number of records, where `ArrayVec` moves all but the first
     items: [u8; 128],
     head: u8,
     len: u8,
-    // for each number, whether it is a member
-    members: [bool; 128],
-    // how many records the table has
-    size: u8,
-    ghost kept: { Kept (queued items head len) members size },
     ghost within: { head < 128 },
+    ghost few: { len ≤ 128 },
+}
+
+impl Line for LongestRestedFirst {
+    ghost use Rattle.pools.specs.Orders.{put_last};
+    ghost use Rattle.pools.specs.Joining.{put_last_joins};
+    ghost use Rattle.pools.specs.Rings.{ring_order};
+
+    ghost order = { ring_order };
+
+    ghost joined = { put_last };
+
+    ghost joins = { put_last_joins };
+
+    fn new(settings: &Settings) -> LongestRestedFirst {
+        LongestRestedFirst {
+            items: array::from_fn(|place| place as u8),
+            head: 0,
+            len: settings.records,
+        }
+    }
+
+    fn take(&mut self) -> Option<u8> {
+        if self.len == 0 {
+            return None;
+        }
+        let node = self.items[self.head as usize];
+        self.head = wrap(self.head + 1);
+        self.len -= 1;
+        Some(node)
+    }
+
+    fn join(&mut self, node: u8) {
+        let place = wrap(self.head + self.len);
+        self.items[place as usize] = node;
+        self.len += 1;
+    }
+}
+
+// A place that runs past the end starts again at 0.
+fn wrap(place: u8) -> u8
+    ensures { result ≡ wrapped place }
+{
+    if place < PLACES {
+        place
+    } else {
+        place - PLACES
+    }
 }

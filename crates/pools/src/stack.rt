@@ -1,16 +1,43 @@
 // A pool that issues the latest given first.
-ghost use Rattle.pools.specs.Orders.{stacked, Kept};
+ghost use Rattle.std.specs.Prelude.{◌≡◌};
 
-pub mod calls;
+use crate::line::Line;
+use crate::line_pool::LinePool;
+use arrayvec::ArrayVec;
+use settings::Settings;
+
+pub type Stack = LinePool<LatestFirst>;
 
 #[derive(Drop)]
-pub struct Stack {
-    // the members; the next to be taken lies at `len - 1`
-    items: [u8; 128],
-    len: u8,
-    // for each number, whether it is a member
-    members: [bool; 128],
-    // how many records the table has
-    size: u8,
-    ghost kept: { Kept (stacked items len) members size },
+pub struct LatestFirst {
+    // the next to be taken lies last
+    items: ArrayVec<u8, 128>,
+}
+
+impl Line for LatestFirst {
+    ghost use Rattle.pools.specs.Orders.{put_first};
+    ghost use Rattle.pools.specs.Joining.{put_first_joins};
+    ghost use Rattle.pools.specs.Stacks.{stack_order};
+
+    ghost order = { stack_order };
+
+    ghost joined = { put_first };
+
+    ghost joins = { put_first_joins };
+
+    fn new(settings: &Settings) -> LatestFirst {
+        let mut items = ArrayVec::new();
+        for node in (0..settings.records).rev() {
+            items.push(node);
+        }
+        LatestFirst { items }
+    }
+
+    fn take(&mut self) -> Option<u8> {
+        self.items.pop()
+    }
+
+    fn join(&mut self, node: u8) {
+        self.items.push(node);
+    }
 }

@@ -1,8 +1,11 @@
 // The bytes of a SETUP line, by name.
-ghost use Rattle.std.specs.Prelude.{◌≡◌, Some};
+ghost use Rattle.std.specs.Prelude.{◌≡◌, ◌≤◌, Some, false, IfOk};
+ghost use Rattle.std.specs.Range.{range_inclusive_start, range_inclusive_end, range_inclusive_exhausted};
 ghost use Rattle.settings.specs.Bytes.{place_of, words_of};
+ghost use Rattle.settings.specs.Faults.{Checks};
 
 use std::fmt;
+use std::ops::RangeInclusive;
 
 #[derive(Clone, Copy, PartialEq, Eq, Debug)]
 pub enum SetupByte {
@@ -18,6 +21,7 @@ pub enum SetupByte {
 
 impl SetupByte {
     // Its place in the line; the byte at place 0 says that the line is a SETUP.
+    // A method: `u8::from` would read as the value of the byte.
     pub fn place(self) -> u8
         ensures { result ≡ place_of self }
     {
@@ -55,5 +59,21 @@ impl fmt::Display for SetupByte {
 
     fn fmt<W: fmt::Write>(&self, f: &mut fmt::Formatter<W>) -> fmt::Result {
         f.write_str(self.words())
+    }
+}
+
+// `value` itself where it lies within the limits; else the byte is at fault.
+pub(crate) fn checked(
+    value: u8,
+    limits: RangeInclusive<u8>,
+    byte: SetupByte,
+) -> Result<u8, SetupByte>
+    ensures value { range_inclusive_exhausted limits ≡ false → Checks value (range_inclusive_start limits) (range_inclusive_end limits) byte result }
+    ensures within { IfOk result (λ v. (range_inclusive_start limits ≤ v) × (v ≤ range_inclusive_end limits)) }
+{
+    if limits.contains(&value) {
+        Ok(value)
+    } else {
+        Err(byte)
     }
 }

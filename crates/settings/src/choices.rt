@@ -1,32 +1,11 @@
 // What a SETUP line names by number: a card kind with its links, and a pool.
+ghost use Rattle.settings.specs.Choices.{kind_number, pool_number, NamesKind, NamesPool, Decodes};
 ghost use Rattle.std.specs.Prelude.{◌≡◌};
-ghost use Rattle.settings.specs.Choices.{kind_number, pool_number, NamesKind, NamesPool};
 
 #[derive(Clone, Copy, PartialEq, Eq, Debug)]
 pub enum KindChoice {
     ChainOfSlips,
     BookOfRecipes,
-}
-
-impl KindChoice {
-    pub fn from_number(number: u8) -> Option<KindChoice>
-        ensures { NamesKind number result }
-    {
-        match number {
-            0 => Some(KindChoice::ChainOfSlips),
-            1 => Some(KindChoice::BookOfRecipes),
-            _ => None,
-        }
-    }
-
-    pub fn number(self) -> u8
-        ensures { result ≡ kind_number self }
-    {
-        match self {
-            KindChoice::ChainOfSlips => 0,
-            KindChoice::BookOfRecipes => 1,
-        }
-    }
 }
 
 #[derive(Clone, Copy, PartialEq, Eq, Debug)]
@@ -35,21 +14,56 @@ pub enum PoolChoice {
     Ring,
 }
 
-impl PoolChoice {
-    pub fn from_number(number: u8) -> Option<PoolChoice>
-        ensures { NamesPool number result }
-    {
+// A number that names no choice.
+#[derive(Clone, Copy, PartialEq, Eq, Debug)]
+pub struct UnknownChoice {
+    pub number: u8,
+}
+
+impl TryFrom<u8> for KindChoice {
+    type Error = UnknownChoice;
+
+    ghost try_from_gives = { Decodes NamesKind };
+
+    fn try_from(number: u8) -> Result<KindChoice, UnknownChoice> {
         match number {
-            0 => Some(PoolChoice::Stack),
-            1 => Some(PoolChoice::Ring),
-            _ => None,
+            0 => Ok(KindChoice::ChainOfSlips),
+            1 => Ok(KindChoice::BookOfRecipes),
+            _ => Err(UnknownChoice { number }),
         }
     }
+}
 
-    pub fn number(self) -> u8
-        ensures { result ≡ pool_number self }
-    {
-        match self {
+impl From<KindChoice> for u8 {
+    ghost from_gives = { λ kind number. number ≡ kind_number kind };
+
+    fn from(kind: KindChoice) -> u8 {
+        match kind {
+            KindChoice::ChainOfSlips => 0,
+            KindChoice::BookOfRecipes => 1,
+        }
+    }
+}
+
+impl TryFrom<u8> for PoolChoice {
+    type Error = UnknownChoice;
+
+    ghost try_from_gives = { Decodes NamesPool };
+
+    fn try_from(number: u8) -> Result<PoolChoice, UnknownChoice> {
+        match number {
+            0 => Ok(PoolChoice::Stack),
+            1 => Ok(PoolChoice::Ring),
+            _ => Err(UnknownChoice { number }),
+        }
+    }
+}
+
+impl From<PoolChoice> for u8 {
+    ghost from_gives = { λ pool number. number ≡ pool_number pool };
+
+    fn from(pool: PoolChoice) -> u8 {
+        match pool {
             PoolChoice::Stack => 0,
             PoolChoice::Ring => 1,
         }

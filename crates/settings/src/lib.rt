@@ -7,6 +7,6 @@ pub mod limits;
 pub mod setup;
 
 pub use bytes::SetupByte;
-pub use choices::{KindChoice, PoolChoice};
+pub use choices::{KindChoice, PoolChoice, UnknownChoice};
 pub use limits::Settings;
 pub use setup::Setup;

@@ -1,6 +1,10 @@
 // The settings of a table. The type keeps every limit, so no later code tests a setting again.
 ghost use Rattle.std.specs.Prelude.{◌≤◌};
 
+use crate::bytes::{SetupByte, checked};
+use frames::SetupBytes;
+
+// pairs of numbers: today's Rattle takes no range as the value of a constant
 pub const MIN_STATIONS: u8 = 1;
 
 pub const MAX_STATIONS: u8 = 8;
@@ -41,4 +45,37 @@ pub struct Settings {
     ghost roots_in: { (1 ≤ roots) × (roots ≤ 16) },
     ghost t1_in: { (1 ≤ t1) × (t1 ≤ 64) },
     ghost t2_in: { (1 ≤ t2) × (t2 ≤ t1) },
+}
+
+// The settings in the first six bytes, or the first byte outside its limits.
+impl TryFrom<&SetupBytes> for Settings {
+    ghost use Rattle.settings.specs.Faults.{MakesSettings};
+
+    type Error = SetupByte;
+
+    ghost try_from_gives = { λ line r. MakesSettings line.now r };
+
+    fn try_from(line: &SetupBytes) -> Result<Settings, SetupByte> {
+        Ok(Settings {
+            stations: checked(
+                line.stations,
+                MIN_STATIONS..=MAX_STATIONS,
+                SetupByte::Stations,
+            )?,
+            slots: checked(line.slots, MIN_SLOTS..=MAX_SLOTS, SetupByte::Slots)?,
+            records: checked(line.records, MIN_RECORDS..=MAX_RECORDS, SetupByte::Records)?,
+            roots: checked(line.roots, MIN_ROOTS..=MAX_ROOTS, SetupByte::Roots)?,
+            t1: checked(line.t1, MIN_THRESHOLD..=MAX_THRESHOLD, SetupByte::T1)?,
+            t2: checked(line.t2, MIN_THRESHOLD..=line.t1, SetupByte::T2)?,
+        })
+    }
+}
+
+impl Settings {
+    ghost use Rattle.settings.specs.Limits.{WithinLimits};
+
+    // Every settings value lies within the limits, wherever it came from.
+    pub fn limits_stand(&self)
+        ensures { WithinLimits self.now }
+    {}
 }

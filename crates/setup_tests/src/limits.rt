@@ -45,11 +45,8 @@ fn first_faults(rt: HostRuntime) -> Result<(), Fail> {
             pool: number(words.next())?,
         };
         let place = number(words.next())?;
-        let fault = match Setup::from_bytes(&line) {
-            Ok(_) => 0,
-            Err(byte) => byte.place(),
-        };
-        assert_eq!(rt; fault, place);
+        let fault = Setup::try_from(&line).err();
+        assert_eq!(rt; fault.map_or(0, |byte| byte.place()), place);
     }
     Ok(())
 }
@@ -66,12 +63,10 @@ fn in_words(rt: HostRuntime) -> Result<(), Fail> {
         kind: 0,
         pool: 1,
     };
-    match Setup::from_bytes(&line) {
-        Ok(_) => Err(Fail::new("200 records were accepted")),
-        Err(byte) => {
-            let words = format!(in rt.alloc(); "{byte}")?;
-            assert!(rt; words.as_str() == "records must be 1 to 128");
-            Ok(())
-        }
-    }
+    let byte = Setup::try_from(&line)
+        .err()
+        .ok_or("200 records were accepted")?;
+    let words = format!(in rt.alloc(); "{byte}")?;
+    assert!(rt; words.as_str() == "records must be 1 to 128");
+    Ok(())
 }

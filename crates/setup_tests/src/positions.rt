@@ -3,8 +3,8 @@ use layouts::{Book, Chain, Follow, follows};
 use std::process::Abort;
 
 fn expect(rt: &impl Abort, table: Follow, after: [Option<u8>; 5]) {
-    for x in 0..5u8 {
-        assert_eq!(rt; table.after(x), after[x as usize]);
+    for (x, wanted) in (0..).zip(after) {
+        assert_eq!(rt; table.after(x), wanted);
     }
 }
 
