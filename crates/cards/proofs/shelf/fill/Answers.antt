@@ -4,6 +4,7 @@ use Rattle.cards.proofs.shelf.fill.Goals as goal
 
 pub returns : goal.returns
 returns g c =
-    let read = sym c.in_ok-card.ensures.value in
-    let same = g.met.C.Card.lawful.round c.args.bytes.now c.in_ok-card.card (bytes_fit c.args.bytes.now c.type_inv.bytes) read in
-    record { fills = (omega arith, (c.in_ok-card.card, read, same, search rules)) }
+    let card = c.in_ok-cards.field-0 in
+    let read = sym c.in_ok-cards.ensures.value in
+    let same = g.met.C.Card.lawful.round c.args.bytes.now card (bytes_fit c.args.bytes.now c.type_inv.bytes) read in
+    record { fills = (omega arith, (card, read, same, search rules)) }
