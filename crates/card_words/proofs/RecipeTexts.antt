@@ -1,5 +1,5 @@
 -- The words of a recipe, written one colorant after another. Assumes nothing.
-use Rattle.std.proofs.Common.{◌≡◌, ℕ, ◌+◌, ◌<◌, ◌≤◌, Bool, true, false, cond, List, [], ◌++◌, length, get_or, drop, codes, decimal, sym, refl, ap, subst, ◌∙◌, append_assoc, append-nil, arith}
+use Rattle.std.proofs.Common.{◌≡◌, ℕ, ◌+◌, ◌<◌, ◌≤◌, Bool, true, false, cond, List, [], ◌++◌, length, get_or, drop, codes, decimal, sym, refl, ap, subst, ◌∙◌, append_assoc, arith}
 use Rattle.std.specs.declared.fmt.Formatter.{Formatter}
 use Rattle.std.specs.Fmt.{IsPlainFormatter, HasWritten}
 use Rattle.std.proofs.Output.{writes_in_calls_nil, has_written_append, has_written_of_eq}
@@ -27,10 +27,6 @@ poured_is false colorant amount = refl
 first_of : (first : Bool) (separator : List ℕ) → separator ≡ cond first [] (codes ", ") → length separator ≡ 0 → first ≡ true
 first_of true separator e h = refl
 first_of false separator e h = let l = ap length e in absurd (omega arith)
-
-later_of : (first : Bool) (separator : List ℕ) → separator ≡ cond first [] (codes ", ") → (length separator ≡ 0 → ⊥) → first ≡ false
-later_of true separator e h = absurd (h (ap length e))
-later_of false separator e h = refl
 
 module _ {W : Type 0} (took : W → List ℕ → W → Type 0) (start : Formatter W) (amounts : List ℕ) where
   pub poured_none : IsPlainFormatter start → Poured took start start [] amounts 0
@@ -77,7 +73,3 @@ module _ {W : Type 0} (took : W → List ℕ → W → Type 0) (start : Formatte
     pub poured_nothing : (next : Formatter W) → length separator ≡ 0 → HasWritten took now (codes "nothing to pour") next → HasWritten took start (pours true 1 all) next
     poured_nothing next e t =
         has_written_of_eq took start _ _ next (told true (first_of p.first separator p.apart e)) (has_written_append took start p.words now (codes "nothing to pour") next p.put t)
-
-    -- all colorants are done, and something was poured
-    pub poured_all : (length separator ≡ 0 → ⊥) → HasWritten took start (pours true 1 all) now
-    poured_all e = has_written_of_eq took start _ _ now (sym (append-nil p.words) ∙ told false (later_of p.first separator p.apart e)) p.put

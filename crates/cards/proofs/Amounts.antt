@@ -5,8 +5,9 @@ use Rattle.cards.specs.declared.fault.CardFault.TheVariants.{Field}
 use Rattle.cards.specs.Fields.{within, first_over}
 use Rattle.cards.specs.Layouts.{amount_field, recipe_fields}
 use Rattle.cards.specs.Recipes.{recipe_of}
-use Rattle.cards.specs.Truths.{truly, checked_fail}
+use Rattle.cards.specs.Truths.{checked_fail}
 use Rattle.std.proofs.lemmas.Bool.Decides.{nat_tests}
+use Rattle.std.proofs.lemmas.Float.{T_from_true}
 
 abbrev pub is_over : ℕ → Bool
 is_over amount = nat_lt 9999 amount
@@ -33,7 +34,7 @@ pub none_over : (vs : List ℕ) → length vs ≡ 12 → position is_over vs ≡
 none_over vs l e =
     let past = when_none _ _ e in
     let all : nat_le (length vs) (position_or_len is_over vs) ≡ true = grind (arith, nat_tests) in
-    truly _ (subst (λ n. within (replicate n amount_field) vs ≡ true) l (within_is vs ∙ all))
+    T_from_true _ (subst (λ n. within (replicate n amount_field) vs ≡ true) l (within_is vs ∙ all))
 
 pub found_over : (vs : List ℕ) (i : ℕ) → length vs ≡ 12 → position is_over vs ≡ Some i → recipe_of vs ≡ Err (Field (2 * i))
 found_over vs i l e =

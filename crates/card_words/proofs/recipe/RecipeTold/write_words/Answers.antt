@@ -1,5 +1,5 @@
 use Rattle.std.proofs.Common.{◌+◌, ◌<◌, ◌≤◌, length, refl, ap, arith, rules}
-use Rattle.card_words.proofs.RecipeTexts.{poured_none, poured_same, poured_skip, poured_more, poured_nothing, poured_all}
+use Rattle.card_words.proofs.RecipeTexts.{poured_none, poured_same, poured_skip, poured_more, poured_nothing}
 use Rattle.card_words.proofs.recipe.RecipeTold.write_words.Goals as goal
 use Rattle.card_words.proofs.recipe.RecipeTold.write_words.Goals.{then-amount-gt0+in_ok-write, else-amount-gt0}
 
@@ -33,10 +33,3 @@ returns-then-is_empty g c =
     let done : length c.amounts.result ≤ c.loop-i.i = search rules in
     poured_nothing g.W.Write.write_str_gives c.args.f.now c.amounts.result c.args.self.now.amounts c.amounts.ensures.value c.loop-i.f c.loop-i.separator.now c.loop-i.i done sofar c.write-then-is_empty.new.self (search rules)
     (c.write-then-is_empty.ensures.writes sofar.put.plain ok)
-
-pub returns : goal.returns
-returns g c =
-    λ plain ok.
-    let done : length c.amounts.result ≤ c.loop-i.i = search rules in
-    poured_all g.W.Write.write_str_gives c.args.f.now c.amounts.result c.args.self.now.amounts c.amounts.ensures.value c.loop-i.f c.loop-i.separator.now c.loop-i.i done (c.loop-i.invariant.1 plain)
-    (λ e. search rules)
