@@ -3,14 +3,14 @@ use Rattle.std.proofs.Common.{◌≡◌, ℕ, ◌*◌, Bool, true, false, cond, 
 use Rattle.std.specs.List.{position, position_or_len}
 use Rattle.cards.specs.declared.fault.CardFault.TheVariants.{Field}
 use Rattle.cards.specs.Fields.{within, first_over}
-use Rattle.cards.specs.Layouts.{amount_field, recipe_fields}
+use Rattle.cards.specs.Layouts.{most_amount, amount_field, recipe_fields}
 use Rattle.cards.specs.Recipes.{recipe_of}
 use Rattle.cards.specs.Truths.{checked_fail}
 use Rattle.std.proofs.lemmas.Bool.Decides.{nat_tests}
 use Rattle.std.proofs.lemmas.Float.{T_from_true}
 
 abbrev pub is_over : ℕ → Bool
-is_over amount = nat_lt 9999 amount
+is_over amount = nat_lt most_amount amount
 
 -- the offset is twice the position
 first_over_is : (vs : List ℕ) → first_over (replicate (length vs) amount_field) vs ≡ 2 * position_or_len is_over vs

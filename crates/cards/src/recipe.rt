@@ -1,7 +1,7 @@
 // The recipe: what to pour into a can.
 ghost use Rattle.std.specs.Prelude.{◌≡◌, ◌≤◌, T, MatchOption, position, nat_lt};
 ghost use Rattle.cards.specs.Fields.{within};
-ghost use Rattle.cards.specs.Layouts.{recipe_fields};
+ghost use Rattle.cards.specs.Layouts.{most_amount, recipe_fields};
 
 use crate::{Card, CardBytes, CardFault};
 
@@ -22,8 +22,8 @@ pub struct Recipe {
 }
 
 // The place of the first amount above the limit.
-fn first_over(amounts: &[u16]) -> Option<usize>
-    ensures { result ≡ position (λ amount. nat_lt 9999 amount) amounts.now }
+fn first_too_large(amounts: &[u16]) -> Option<usize>
+    ensures { result ≡ position (λ amount. nat_lt most_amount amount) amounts.now }
 {
     amounts.iter().position(|amount| *amount > MOST_AMOUNT)
 }
@@ -35,7 +35,7 @@ impl Recipe {
     pub fn new(amounts: [u16; COLORANTS]) -> Result<Recipe, CardFault>
         ensures value { result ≡ recipe_of amounts }
     {
-        match first_over(&amounts) {
+        match first_too_large(&amounts) {
             Some(i) => Err(CardFault::Field(2 * i as u8)),
             None => Ok(Recipe { amounts }),
         }

@@ -31,12 +31,8 @@ mod tests {
     // a recipe's bytes with two of its amounts set
     fn recipe_bytes(third: u16, last: u16) -> [u8; RECIPE_BYTES] {
         let mut bytes = [0; RECIPE_BYTES];
-        let [high, low] = third.to_be_bytes();
-        bytes[4] = high;
-        bytes[5] = low;
-        let [high, low] = last.to_be_bytes();
-        bytes[22] = high;
-        bytes[23] = low;
+        bytes[4..6].copy_from_slice(&third.to_be_bytes());
+        bytes[22..24].copy_from_slice(&last.to_be_bytes());
         bytes
     }
 

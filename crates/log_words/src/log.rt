@@ -5,7 +5,7 @@ ghost use Rattle.frames.specs.Frames.{frame_value};
 ghost use Rattle.words.specs.FrameWords.{frame_words};
 ghost use Rattle.words.specs.Totals.{zero_totals};
 ghost use Rattle.log_words.specs.Lines.{Explains, ExplainsAs, numbered, with_remark};
-ghost use Rattle.log_words.specs.Remarks.{remark, KindAfter};
+ghost use Rattle.log_words.specs.Remarks.{Says, remark, KindAfter};
 
 use crate::remarks::{card_remark, setup_kind, setup_remark};
 use frames::{Frame, LineFault, Refused, decode, frame_of};
@@ -70,7 +70,7 @@ impl Log {
 
     // What is said of a frame beyond its own words.
     fn remark(&self, heap: Global, frame: Frame<'_>) -> Result<Option<String>, AllocError>
-        ensures { IfOk result (λ o. option_map string_bytes o ≡ remark self.now.kind (frame_value frame.entry)) }
+        ensures { Says result (remark self.now.kind (frame_value frame.entry)) }
     {
         match frame {
             Frame::Setup(bytes) => setup_remark(heap, bytes),

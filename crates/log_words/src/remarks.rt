@@ -1,8 +1,7 @@
 // What a SETUP line and a card tell beyond the words of their frame.
-ghost use Rattle.std.specs.Prelude.{◌≡◌, IfOk, None, string_bytes};
-ghost use Rattle.std.specs.Option.{option_map};
+ghost use Rattle.std.specs.Prelude.{None};
 ghost use Rattle.settings.specs.Faults.{first_fault};
-ghost use Rattle.log_words.specs.Remarks.{setup_remark, card_remark, TellsKind};
+ghost use Rattle.log_words.specs.Remarks.{Says, setup_remark, card_remark, TellsKind};
 
 use card_words::card_in_words;
 use cards::{Recipe, Slip};
@@ -12,7 +11,7 @@ use std::alloc::{AllocError, Global};
 
 // The first byte of a SETUP line that is out of its limits.
 pub(crate) fn setup_remark(heap: Global, bytes: SetupBytes) -> Result<Option<String>, AllocError>
-    ensures { IfOk result (λ o. option_map string_bytes o ≡ setup_remark (first_fault bytes)) }
+    ensures { Says result (setup_remark (first_fault bytes)) }
 {
     let Err(byte) = Setup::from_bytes(&bytes) else {
         return Ok(None);
@@ -27,7 +26,7 @@ pub(crate) fn card_remark(
     kind: Option<KindChoice>,
     card: &[u8],
 ) -> Result<Option<String>, AllocError>
-    ensures { IfOk result (λ o. option_map string_bytes o ≡ card_remark kind card.now) }
+    ensures { Says result (card_remark kind card.now) }
 {
     let Some(kind) = kind else {
         return Ok(None);
