@@ -1,10 +1,10 @@
 -- The words of a recipe, written one colorant after another. Assumes nothing.
-use Rattle.std.proofs.Common.{◌≡◌, ℕ, ◌+◌, ◌<◌, ◌≤◌, Bool, true, false, cond, List, [], ◌++◌, length, get_or, drop, codes, decimal, sym, refl, ap, subst, ◌∙◌, append_assoc, arith}
+use Rattle.std.proofs.Common.{◌≡◌, ℕ, ◌+◌, ◌<◌, ◌≤◌, Bool, true, false, cond, List, [], ◌++◌, length, get_or, drop, codes, decimal, sym, refl, ap, ◌∙◌, append_assoc, arith}
 use Rattle.std.specs.declared.fmt.Formatter.{Formatter}
 use Rattle.std.specs.Fmt.{IsPlainFormatter, HasWritten}
 use Rattle.std.proofs.Output.{writes_in_calls_nil, has_written_append, has_written_of_eq}
 use Rattle.std.proofs.lemmas.List.{drop_more, drop_all}
-use Rattle.std.proofs.lemmas.Bool.{cond-true, cond-false, eq-eqb, ne_eqb}
+use Rattle.std.proofs.lemmas.Bool.{cond-false, ne_eqb}
 use Rattle.card_words.specs.Words.{tenths, pour, pours}
 
 -- Words were written, and with those of the colorants that are left they are the words of all. There is a separator once something was poured.
@@ -31,23 +31,6 @@ first_of false separator e h = let l = ap length e in absurd (omega arith)
 module _ {W : Type 0} (took : W → List ℕ → W → Type 0) (start : Formatter W) (amounts : List ℕ) where
   pub poured_none : IsPlainFormatter start → Poured took start start [] amounts 0
   poured_none plain = record { words = []; put = record { wrote = writes_in_calls_nil took start.writer; plain = plain }; first = true; apart = refl; whole = refl }
-
-  -- the same of another name for the writer and the separator
-  pub poured_same : (now next : Formatter W) (separator other : List ℕ) (i : ℕ) → next ≡ now → other ≡ separator → Poured took start now separator amounts i → Poured took start next other amounts i
-  poured_same now next separator other i e h p = subst (λ f. Poured took start f other amounts i) (sym e) (subst (λ s. Poured took start now s amounts i) (sym h) p)
-
-  -- nothing is poured of this colorant
-  pub poured_skip : (now : Formatter W) (separator : List ℕ) (i : ℕ) → i < length amounts → get_or amounts i 0 ≡ 0 → Poured took start now separator amounts i → Poured took start now separator amounts (i + 1)
-  poured_skip now separator i h e p =
-      record {
-        words = p.words;
-        put = p.put;
-        first = p.first;
-        apart = p.apart;
-        whole =
-            ap (λ l. p.words ++ l) (sym (ap (pours p.first (i + 1)) (drop_more amounts i 0 h) ∙ cond-true _ _ _ (eq-eqb (get_or amounts i 0) 0 e)))
-            ∙ p.whole;
-      }
 
   -- something is poured of this colorant
   pub poured_more : (now next : Formatter W) (separator : List ℕ) (i : ℕ) → i < length amounts → (get_or amounts i 0 ≡ 0 → ⊥) → HasWritten took now (poured separator (i + 1) (get_or amounts i 0)) next → Poured took start now separator amounts i → Poured took start next (codes ", ") amounts (i + 1)

@@ -21,12 +21,13 @@ impl Told for Recipe {
     fn write_words<W: fmt::Write>(&self, f: &mut fmt::Formatter<W>) -> fmt::Result {
         let mut separator = "";
         for (i, amount) in self.amounts().iter().enumerate() {
-            if *amount > 0 {
-                let colorant = i + 1;
-                let grams = Tenths(*amount);
-                write!(f, "{separator}colorant {colorant}: {grams} g")?;
-                separator = ", ";
+            if *amount == 0 {
+                continue;
             }
+            let colorant = i + 1;
+            let grams = Tenths(*amount);
+            write!(f, "{separator}colorant {colorant}: {grams} g")?;
+            separator = ", ";
         }
         if separator.is_empty() {
             return write!(f, "nothing to pour");
