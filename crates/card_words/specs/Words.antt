@@ -7,8 +7,12 @@ use Rattle.cards.specs.declared.slip.Slip.{Slip}
 abbrev pub tenths : ℕ → List ℕ
 tenths n = decimal (n / 10) ++ (codes "." ++ decimal (n % 10))
 
-abbrev pub byte_count : ℕ → List ℕ
-byte_count n = cond (n == 1) (codes "1 byte") (decimal n ++ codes " bytes")
+-- what the two kinds are called
+abbrev pub slip_name : List ℕ
+slip_name = codes "a slip"
+
+abbrev pub recipe_name : List ℕ
+recipe_name = codes "a recipe"
 
 abbrev pub slip_words : Slip → List ℕ
 slip_words s = codes "order " ++ (decimal s.order ++ (codes ", can " ++ (tenths s.can ++ codes " l")))

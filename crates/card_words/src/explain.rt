@@ -1,29 +1,16 @@
 // Bytes as a card in words.
 ghost use Rattle.std.specs.Prelude.{◌≡◌, IfOk, string_bytes};
-ghost use Rattle.card_words.specs.FaultWords.{slip_told, recipe_told};
+ghost use Rattle.card_words.specs.FaultWords.{card_told};
 
-use crate::{BadRecipe, BadSlip, RecipeWords, SlipWords};
-use cards::{Card, Recipe, Slip};
+use crate::{BadCard, CardInWords, Told};
 use std::alloc::{AllocError, Global};
 
-// The slip that these bytes are, or what is wrong with them.
-pub fn slip_in_words(heap: Global, bytes: &[u8]) -> Result<String, AllocError>
-    ensures words { IfOk result (λ text. string_bytes text ≡ slip_told bytes.now) }
+// The card of the kind `C` that these bytes are, or what is wrong with them.
+pub fn card_in_words<C: Told>(heap: Global, bytes: &[u8]) -> Result<String, AllocError>
+    ensures words { IfOk result (λ text. string_bytes text ≡ card_told C.name C.size C.words C.bad_field C.reading bytes.now) }
 {
-    let given = bytes.len();
-    match Slip::read(bytes) {
-        Ok(slip) => SlipWords(slip).to_string(heap),
-        Err(fault) => BadSlip { fault, given }.to_string(heap),
-    }
-}
-
-// The recipe that these bytes are, or what is wrong with them.
-pub fn recipe_in_words(heap: Global, bytes: &[u8]) -> Result<String, AllocError>
-    ensures words { IfOk result (λ text. string_bytes text ≡ recipe_told bytes.now) }
-{
-    let given = bytes.len();
-    match Recipe::read(bytes) {
-        Ok(recipe) => RecipeWords(recipe).to_string(heap),
-        Err(fault) => BadRecipe { fault, given }.to_string(heap),
+    match C::read(bytes) {
+        Ok(card) => CardInWords(card).to_string(heap),
+        Err(fault) => BadCard::<C>::new(fault, bytes.len()).to_string(heap),
     }
 }

@@ -1,65 +1,45 @@
 // What is wrong with bytes that should be a card, in words.
-ghost use Rattle.std.specs.Prelude.{Some};
-ghost use Rattle.card_words.specs.FaultWords.{bad_slip_words, bad_recipe_words};
+ghost use Rattle.std.specs.Prelude.{◌≡◌, Some};
+ghost use Rattle.card_words.specs.FaultWords.{fault_words};
 
-use crate::{ByteCount, Tenths};
-use cards::{CardFault, MOST_AMOUNT, MOST_CAN_TENTHS, RECIPE_BYTES, SLIP_BYTES};
+use crate::{ByteCount, Told};
+use cards::CardFault;
 use std::fmt;
+use std::marker::PhantomData;
 
-// Bytes that are no slip: what is wrong with them, and how many they are.
+// Bytes that are no card of the kind `C`: what is wrong with them, and how many they are.
 #[derive(Clone, Copy, Debug)]
-pub struct BadSlip {
+pub struct BadCard<C> {
     pub fault: CardFault,
     pub given: usize,
+    kind: PhantomData<C>,
 }
 
-impl fmt::Display for BadSlip {
-    ghost output = { λ b. Some (bad_slip_words b) };
-
-    fn fmt<W: fmt::Write>(&self, f: &mut fmt::Formatter<W>) -> fmt::Result {
-        match self.fault {
-            CardFault::Length => {
-                let given = ByteCount(self.given);
-                let size = SLIP_BYTES;
-                write!(f, "the card has {given}, a slip has {size}")
-            }
-            // four bytes hold any order number, so this is the can size
-            CardFault::Field(byte) => {
-                let most = Tenths(MOST_CAN_TENTHS);
-                write!(
-                    f,
-                    "the can size is above {most} l (byte {byte} of the card)"
-                )
-            }
+impl<C> BadCard<C> {
+    pub fn new(fault: CardFault, given: usize) -> BadCard<C>
+        ensures fault { result.fault ≡ fault }
+        ensures given { result.given ≡ given }
+    {
+        BadCard {
+            fault,
+            given,
+            kind: PhantomData,
         }
     }
 }
 
-// Bytes that are no recipe: what is wrong with them, and how many they are.
-#[derive(Clone, Copy, Debug)]
-pub struct BadRecipe {
-    pub fault: CardFault,
-    pub given: usize,
-}
-
-impl fmt::Display for BadRecipe {
-    ghost output = { λ b. Some (bad_recipe_words b) };
+impl<C: Told> fmt::Display for BadCard<C> {
+    ghost output = { λ b. Some (fault_words C.name C.size C.bad_field b.fault b.given) };
 
     fn fmt<W: fmt::Write>(&self, f: &mut fmt::Formatter<W>) -> fmt::Result {
         match self.fault {
             CardFault::Length => {
                 let given = ByteCount(self.given);
-                let size = RECIPE_BYTES;
-                write!(f, "the card has {given}, a recipe has {size}")
+                let name = C::name();
+                let size = C::size();
+                write!(f, "the card has {given}, {name} has {size}")
             }
-            CardFault::Field(byte) => {
-                let amount = byte / 2 + 1;
-                let most = Tenths(MOST_AMOUNT);
-                write!(
-                    f,
-                    "amount {amount} is above {most} g (byte {byte} of the card)"
-                )
-            }
+            CardFault::Field(byte) => C::write_bad_field(byte, f),
         }
     }
 }

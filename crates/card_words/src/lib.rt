@@ -6,9 +6,10 @@ mod faults;
 mod quantities;
 mod recipe;
 mod slip;
+mod told;
 
-pub use explain::{recipe_in_words, slip_in_words};
-pub use faults::{BadRecipe, BadSlip};
-pub use quantities::{ByteCount, Tenths};
-pub use recipe::RecipeWords;
-pub use slip::SlipWords;
+pub use explain::card_in_words;
+pub use faults::BadCard;
+pub use quantities::Tenths;
+pub use told::{CardInWords, Told};
+pub use words::ByteCount;

@@ -1,6 +1,6 @@
 // Quantities in words.
 ghost use Rattle.std.specs.Prelude.{Some};
-ghost use Rattle.card_words.specs.Words.{tenths, byte_count};
+ghost use Rattle.card_words.specs.Words.{tenths};
 
 use std::fmt;
 
@@ -15,20 +15,5 @@ impl fmt::Display for Tenths {
         let whole = self.0 / 10;
         let digit = self.0 % 10;
         write!(f, "{whole}.{digit}")
-    }
-}
-
-// A number of bytes: 1 byte, 6 bytes.
-#[derive(Clone, Copy, PartialEq, Eq, Debug)]
-pub struct ByteCount(pub usize);
-
-impl fmt::Display for ByteCount {
-    ghost output = { λ n. Some (byte_count n.0) };
-
-    fn fmt<W: fmt::Write>(&self, f: &mut fmt::Formatter<W>) -> fmt::Result {
-        match self.0 {
-            1 => write!(f, "1 byte"),
-            count => write!(f, "{count} bytes"),
-        }
     }
 }

@@ -1,58 +1,47 @@
 // A recipe in words.
-ghost use Rattle.std.specs.Prelude.{Some};
-ghost use Rattle.card_words.specs.Words.{pour, recipe_words};
+ghost use Rattle.card_words.specs.Words.{recipe_name, recipe_words};
+ghost use Rattle.card_words.specs.FaultWords.{recipe_bad_field};
 
-use crate::Tenths;
-use cards::{COLORANTS, Recipe};
+use crate::{Tenths, Told};
+use cards::{MOST_AMOUNT, Recipe};
 use std::fmt;
 
-// Shown as: colorant 1: 12.3 g, colorant 4: 0.5 g
-#[derive(Clone, Copy)]
-pub struct RecipeWords(pub Recipe);
+impl Told for Recipe {
+    ghost name = { recipe_name };
 
-// What is poured of one colorant; a comma stands before it unless it is the first.
-#[derive(Clone, Copy)]
-struct Pour {
-    first: bool,
-    colorant: usize,
-    amount: u16,
-}
+    ghost words = { recipe_words };
 
-impl fmt::Display for Pour {
-    ghost output = { λ p. Some (pour p.first p.colorant p.amount) };
+    ghost bad_field = { recipe_bad_field };
 
-    fn fmt<W: fmt::Write>(&self, f: &mut fmt::Formatter<W>) -> fmt::Result {
-        let colorant = self.colorant;
-        let amount = Tenths(self.amount);
-        if self.first {
-            write!(f, "colorant {colorant}: {amount} g")
-        } else {
-            write!(f, ", colorant {colorant}: {amount} g")
-        }
+    fn name() -> &'static str {
+        "a recipe"
     }
-}
 
-impl fmt::Display for RecipeWords {
-    ghost output = { λ w. Some (recipe_words w.0) };
-
-    fn fmt<W: fmt::Write>(&self, f: &mut fmt::Formatter<W>) -> fmt::Result {
-        let amounts = self.0.amounts();
-        let mut first = true;
-        for i in 0..COLORANTS {
-            let amount = amounts[i];
-            if amount > 0 {
-                let pour = Pour {
-                    first,
-                    colorant: i + 1,
-                    amount,
-                };
-                write!(f, "{pour}")?;
-                first = false;
+    // Shown as: colorant 1: 12.3 g, colorant 4: 0.5 g
+    fn write_words<W: fmt::Write>(&self, f: &mut fmt::Formatter<W>) -> fmt::Result {
+        let mut separator = "";
+        for (i, amount) in self.amounts().iter().enumerate() {
+            if *amount == 0 {
+                continue;
             }
+            let colorant = i + 1;
+            let grams = Tenths(*amount);
+            write!(f, "{separator}colorant {colorant}: {grams} g")?;
+            separator = ", ";
         }
-        if first {
+        if separator.is_empty() {
             return write!(f, "nothing to pour");
         }
         Ok(())
+    }
+
+    // Each amount has two bytes, and the amounts are counted from 1.
+    fn write_bad_field<W: fmt::Write>(byte: u8, f: &mut fmt::Formatter<W>) -> fmt::Result {
+        let amount = byte / 2 + 1;
+        let most = Tenths(MOST_AMOUNT);
+        write!(
+            f,
+            "amount {amount} is above {most} g (byte {byte} of the card)"
+        )
     }
 }

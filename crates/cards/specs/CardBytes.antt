@@ -1,6 +1,6 @@
 -- The bytes that a place of fixed size holds. Assumes nothing.
-use Rattle.std.specs.Prelude.{ℕ, List, take}
+use Rattle.std.specs.Prelude.{ℕ, List}
 use Rattle.cards.specs.declared.card_bytes.CardBytes.{CardBytes}
 
 abbrev pub held : CardBytes → List ℕ
-held b = take b.len b.room
+held b = b.bytes.items

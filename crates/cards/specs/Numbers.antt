@@ -96,7 +96,7 @@ and_false true b e h = sym h ∙ e
 and_false false b e h = refl
 
 pub first_over_inside : (fs : List NumberField) (bs : List ℕ) → T (sound fs) → within fs (numbers fs bs) ≡ false → first_over fs (numbers fs bs) < size_of fs
-first_over_inside [] bs s e = let z : ◌≡◌ {A = ℕ} 0 1 = cc in absurd (omega arith)
+first_over_inside [] bs s e = cc
 first_over_inside (f ∷ fs) bs s e =
     let fine = both _ _ s in
     let some = ltb→lt 0 f.width (both _ _ fine.1).0 in

@@ -1,15 +1,32 @@
 // The bytes of one card, kept in a place of fixed size.
-ghost use Rattle.std.specs.Prelude.{◌≤◌};
+ghost use Rattle.std.specs.Prelude.{◌≡◌, ◌≤◌, length, take};
+ghost use Rattle.cards.specs.CardBytes.{held};
 
-mod made;
+use arrayvec::ArrayVec;
 
 // No kind has more bytes than this: a line has at most 64, and three stand before its card.
 pub const MOST_BYTES: usize = 61;
 
-// The card's bytes are the first `len` ones.
-#[derive(Clone, Copy)]
+#[derive(Clone, PartialEq, Eq, Debug, Drop)]
 pub struct CardBytes {
-    room: [u8; MOST_BYTES],
-    len: usize,
-    ghost inside: { len ≤ 61 },
+    bytes: ArrayVec<u8, MOST_BYTES>,
+}
+
+impl CardBytes {
+    // The first 61 of the bytes; no card has more.
+    pub fn of(bytes: &[u8]) -> CardBytes
+        ensures value { held result ≡ take 61 bytes.now }
+    {
+        let kept = &bytes[..MOST_BYTES.min(bytes.len())];
+        let mut bytes = ArrayVec::new();
+        bytes.try_extend_from_slice(kept).unwrap();
+        CardBytes { bytes }
+    }
+
+    pub fn as_slice(&self) -> &[u8]
+        ensures value { result.now ≡ held self.now }
+        ensures inside { length result.now ≤ 61 }
+    {
+        self.bytes.as_slice()
+    }
 }

@@ -32,11 +32,11 @@ pub fn blank_cards<C: Card, const N: usize>() -> [C; N]
 pub fn fill<C: Card>(cards: &mut [C], index: usize, bytes: &[u8]) -> Result<(), ShelfFault>
     ensures fills { Fills C.Card.reading C.Card.writing cards.old index bytes.now result cards.new }
 {
+    // By index, since `get_mut` of a slice tells nothing of the cards that are left.
     if index >= cards.len() {
         return Err(ShelfFault::NoCard);
     }
-    let card = C::read(bytes)?;
-    cards[index] = card;
+    cards[index] = C::read(bytes)?;
     Ok(())
 }
 
@@ -44,8 +44,5 @@ pub fn fill<C: Card>(cards: &mut [C], index: usize, bytes: &[u8]) -> Result<(), 
 pub fn read<C: Card>(cards: &[C], index: usize) -> Option<CardBytes>
     ensures reads { ReadAt C.Card.writing C.Card.blank cards.now index result }
 {
-    if index >= cards.len() {
-        return None;
-    }
-    Some(cards[index].write())
+    cards.get(index).map(|card| card.write())
 }

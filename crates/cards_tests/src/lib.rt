@@ -3,7 +3,7 @@
 
 #[cfg(test)]
 mod tests {
-    use card_words::{recipe_in_words, slip_in_words};
+    use card_words::card_in_words;
     use cards::{Card, CardFault, RECIPE_BYTES, Recipe, ShelfFault, Slip, blank_cards, fill, read};
     use std::test::Fail;
 
@@ -31,18 +31,9 @@ mod tests {
     // a recipe's bytes with two of its amounts set
     fn recipe_bytes(third: u16, last: u16) -> [u8; RECIPE_BYTES] {
         let mut bytes = [0; RECIPE_BYTES];
-        let [high, low] = third.to_be_bytes();
-        bytes[4] = high;
-        bytes[5] = low;
-        let [high, low] = last.to_be_bytes();
-        bytes[22] = high;
-        bytes[23] = low;
+        bytes[4..6].copy_from_slice(&third.to_be_bytes());
+        bytes[22..24].copy_from_slice(&last.to_be_bytes());
         bytes
-    }
-
-    // what is wrong with a recipe's bytes, if anything
-    fn recipe_fault(bytes: &[u8]) -> Option<CardFault> {
-        Recipe::read(bytes).err()
     }
 
     #[test]
@@ -52,22 +43,22 @@ mod tests {
         assert_eq!(rt; largest.amount(11), Some(9999));
         assert_eq!(rt; largest.amount(12), None);
         assert_eq!(rt;
-            recipe_fault(&recipe_bytes(10000, 0)),
-            Some(CardFault::Field(4))
+            Recipe::read(&recipe_bytes(10000, 0)),
+            Err(CardFault::Field(4))
         );
         assert_eq!(rt;
-            recipe_fault(&recipe_bytes(0, 10000)),
-            Some(CardFault::Field(22))
+            Recipe::read(&recipe_bytes(0, 10000)),
+            Err(CardFault::Field(22))
         );
         assert_eq!(rt;
-            recipe_fault(&recipe_bytes(65535, 65535)),
-            Some(CardFault::Field(4))
+            Recipe::read(&recipe_bytes(65535, 65535)),
+            Err(CardFault::Field(4))
         );
         assert_eq!(rt;
-            recipe_fault(&recipe_bytes(65535, 0)[0..23]),
-            Some(CardFault::Length)
+            Recipe::read(&recipe_bytes(65535, 0)[0..23]),
+            Err(CardFault::Length)
         );
-        assert_eq!(rt; recipe_fault(&[]), Some(CardFault::Length));
+        assert_eq!(rt; Recipe::read(&[]), Err(CardFault::Length));
         assert_eq!(rt;
             largest.write().as_slice(),
             recipe_bytes(9999, 9999).as_slice()
@@ -85,11 +76,7 @@ mod tests {
 
     // the six bytes of a slip on a shelf
     fn shown(cards: &[Slip], index: usize) -> Option<[u8; 6]> {
-        let bytes = read(cards, index)?;
-        let [a, b, c, d, e, f] = bytes.as_slice() else {
-            return None;
-        };
-        Some([*a, *b, *c, *d, *e, *f])
+        read(cards, index)?.as_slice().try_into().ok()
     }
 
     #[test]
@@ -112,35 +99,35 @@ mod tests {
     fn cards_in_words(rt: HostRuntime) -> Result<(), Fail> {
         let heap = rt.alloc();
         assert_eq!(rt;
-            slip_in_words(heap, &[0, 0, 0, 12, 0, 25])?.as_str(),
+            card_in_words::<Slip>(heap, &[0, 0, 0, 12, 0, 25])?.as_str(),
             "order 12, can 2.5 l"
         );
         assert_eq!(rt;
-            slip_in_words(heap, &[0, 0, 0, 12, 0, 251])?.as_str(),
+            card_in_words::<Slip>(heap, &[0, 0, 0, 12, 0, 251])?.as_str(),
             "the can size is above 25.0 l (byte 4 of the card)"
         );
         assert_eq!(rt;
-            slip_in_words(heap, &[0, 0, 0, 0, 0])?.as_str(),
+            card_in_words::<Slip>(heap, &[0, 0, 0, 0, 0])?.as_str(),
             "the card has 5 bytes, a slip has 6"
         );
         assert_eq!(rt;
-            slip_in_words(heap, &[0])?.as_str(),
+            card_in_words::<Slip>(heap, &[0])?.as_str(),
             "the card has 1 byte, a slip has 6"
         );
         assert_eq!(rt;
-            recipe_in_words(heap, &recipe_bytes(123, 5))?.as_str(),
+            card_in_words::<Recipe>(heap, &recipe_bytes(123, 5))?.as_str(),
             "colorant 3: 12.3 g, colorant 12: 0.5 g"
         );
         assert_eq!(rt;
-            recipe_in_words(heap, &recipe_bytes(0, 0))?.as_str(),
+            card_in_words::<Recipe>(heap, &recipe_bytes(0, 0))?.as_str(),
             "nothing to pour"
         );
         assert_eq!(rt;
-            recipe_in_words(heap, &recipe_bytes(10000, 0))?.as_str(),
+            card_in_words::<Recipe>(heap, &recipe_bytes(10000, 0))?.as_str(),
             "amount 3 is above 999.9 g (byte 4 of the card)"
         );
         assert_eq!(rt;
-            recipe_in_words(heap, &[])?.as_str(),
+            card_in_words::<Recipe>(heap, &[])?.as_str(),
             "the card has 0 bytes, a recipe has 24"
         );
         Ok(())

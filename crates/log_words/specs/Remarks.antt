@@ -1,6 +1,9 @@
 -- What is said of a frame beyond its own words: a SETUP byte that is out of its limits, and a card, once a SETUP line has told
 -- which kind the cards are.
-use Rattle.std.specs.Prelude.{◌≡◌, ℕ, List, ◌++◌, Some, None, codes, decimal, Option}
+use Rattle.std.specs.Prelude.{◌≡◌, ℕ, List, ◌++◌, Some, None, IfOk, string_bytes, codes, decimal, Option, Result, String}
+use Rattle.std.specs.Option.{option_map}
+use Rattle.std.specs.declared.alloc.AllocError.{AllocError}
+use Rattle.std.specs.declared.alloc.Global.{Global}
 use Rattle.frames.specs.Frames.{FrameValue, SETUP, DEREF, RELEASE, CAS, STORE, NEW, DELETE, STEP, FILL, READ}
 use Rattle.settings.specs.declared.bytes.SetupByte.{SetupByte}
 use Rattle.settings.specs.declared.choices.KindChoice.{KindChoice}
@@ -9,6 +12,10 @@ use Rattle.settings.specs.Bytes.{place_of, words_of}
 use Rattle.settings.specs.Choices.{NamesKind}
 use Rattle.settings.specs.Faults.{first_fault}
 use Rattle.card_words.specs.FaultWords.{slip_told, recipe_told}
+
+-- what is said beyond the words of a frame, if memory served
+abbrev pub Says : Result (Option (String Global)) AllocError → Option (List ℕ) → Type 0
+Says r words = IfOk r (λ more. option_map string_bytes more ≡ words)
 
 -- "refused 3 at byte 3: records must be 1 to 128"
 abbrev pub setup_remark : Option SetupByte → Option (List ℕ)

@@ -2,8 +2,6 @@
 #![tactic(auto)]
 
 pub mod log;
-pub mod log_lines;
 mod remarks;
 
 pub use log::Log;
-pub use log_lines::explained;

@@ -3,6 +3,7 @@ use Rattle.std.specs.Prelude.{ℕ, cond, List, ◌++◌, length, codes, decimal,
 use Rattle.frames.specs.Frames.{FrameValue, SETUP, DEREF, RELEASE, CAS, STORE, NEW, DELETE, STEP, FILL, READ}
 use Rattle.frames.specs.declared.frame.SetupBytes.{SetupBytes}
 use Rattle.frames.specs.declared.frame.SpotBytes.{SpotBytes}
+use Rattle.words.specs.Quantities.{byte_count}
 
 -- FF names no record
 abbrev pub name_words : ℕ → List ℕ
@@ -11,9 +12,6 @@ name_words node = cond (node == 0xFF) (codes "none") (codes "record " ++ decimal
 -- FF for the record is the roots
 abbrev pub spot_words : SpotBytes → List ℕ
 spot_words s = cond (s.container == 0xFF) (codes "root " ++ decimal s.index) (codes "link " ++ (decimal s.index ++ (codes " of record " ++ decimal s.container)))
-
-abbrev pub size_words : ℕ → List ℕ
-size_words n = cond (n == 1) (codes "1 byte") (decimal n ++ codes " bytes")
 
 -- how much of everything a SETUP frame asks for
 abbrev pub sizes_words : SetupBytes → List ℕ
@@ -43,5 +41,5 @@ frame_words (NEW st) = codes "station " ++ (decimal st ++ codes " takes a new re
 frame_words (DELETE st node) = codes "station " ++ (decimal st ++ (codes " withdraws record " ++ decimal node))
 frame_words (STEP st) = codes "station " ++ (decimal st ++ codes " makes one step")
 frame_words (FILL st node card) =
-    codes "station " ++ (decimal st ++ (codes " fills record " ++ (decimal node ++ (codes " with a card of " ++ size_words (length card)))))
+    codes "station " ++ (decimal st ++ (codes " fills record " ++ (decimal node ++ (codes " with a card of " ++ byte_count (length card)))))
 frame_words (READ st node) = codes "station " ++ (decimal st ++ (codes " reads record " ++ decimal node))

@@ -1,3 +1,4 @@
 pub mod FrameWords
+pub mod Quantities
 pub mod RefusalWords
 pub mod Totals

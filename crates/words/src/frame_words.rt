@@ -1,12 +1,13 @@
 // What a frame asks, in words.
 ghost use Rattle.std.specs.Prelude.{Some};
 ghost use Rattle.frames.specs.Frames.{frame_value};
-ghost use Rattle.words.specs.FrameWords.{frame_words, sizes_words, choices_words, spot_words, name_words, size_words};
+ghost use Rattle.words.specs.FrameWords.{frame_words, sizes_words, choices_words, spot_words, name_words};
 
+use crate::ByteCount;
 use frames::{Frame, SetupBytes, SpotBytes};
 use std::fmt;
 
-// As old or new of a swap or a store: no record. As a container: the roots.
+// FF, by which the lines themselves say none: no record as old or new, the roots as a container.
 const NONE: u8 = 0xFF;
 
 // A record that is named, or none.
@@ -17,11 +18,9 @@ impl fmt::Display for NameInWords {
     ghost output = { λ w. Some (name_words w.0) };
 
     fn fmt<W: fmt::Write>(&self, f: &mut fmt::Formatter<W>) -> fmt::Result {
-        let node = self.0;
-        if node == NONE {
-            write!(f, "none")
-        } else {
-            write!(f, "record {node}")
+        match self.0 {
+            NONE => write!(f, "none"),
+            node => write!(f, "record {node}"),
         }
     }
 }
@@ -34,29 +33,12 @@ impl fmt::Display for SpotInWords {
     ghost output = { λ w. Some (spot_words w.0) };
 
     fn fmt<W: fmt::Write>(&self, f: &mut fmt::Formatter<W>) -> fmt::Result {
-        let container = self.0.container;
-        let index = self.0.index;
-        if container == NONE {
-            write!(f, "root {index}")
-        } else {
-            write!(f, "link {index} of record {container}")
-        }
-    }
-}
-
-// How long a card is.
-#[derive(Clone, Copy)]
-pub struct SizeInWords(pub usize);
-
-impl fmt::Display for SizeInWords {
-    ghost output = { λ w. Some (size_words w.0) };
-
-    fn fmt<W: fmt::Write>(&self, f: &mut fmt::Formatter<W>) -> fmt::Result {
-        let size = self.0;
-        if size == 1 {
-            write!(f, "1 byte")
-        } else {
-            write!(f, "{size} bytes")
+        match self.0 {
+            SpotBytes {
+                container: NONE,
+                index,
+            } => write!(f, "root {index}"),
+            SpotBytes { container, index } => write!(f, "link {index} of record {container}"),
         }
     }
 }
@@ -151,7 +133,7 @@ impl<'a> fmt::Display for FrameInWords<'a> {
                 node,
                 card,
             } => {
-                let size = SizeInWords(card.len());
+                let size = ByteCount(card.len());
                 write!(
                     f,
                     "station {station} fills record {node} with a card of {size}"

@@ -36,8 +36,7 @@ impl fmt::Display for RefusedInWords {
     ghost output = { λ w. Some (refused_words w.0) };
 
     fn fmt<W: fmt::Write>(&self, f: &mut fmt::Formatter<W>) -> fmt::Result {
-        let why = self.0.why;
-        let place = self.0.place;
+        let Refused { why, place } = self.0;
         let number = why.number();
         let reason = reason(why);
         write!(f, "refused {number} at byte {place}: {reason}")

@@ -6,7 +6,7 @@ use frames::LineFault;
 use std::fmt;
 
 // A count that has reached the largest number stays there.
-#[derive(Clone, Copy, PartialEq, Eq, Debug)]
+#[derive(Clone, Copy, PartialEq, Eq, Default, Debug)]
 pub struct Totals {
     pub lines: u64,
     pub frames: u64,
@@ -19,12 +19,7 @@ impl Totals {
     pub fn new() -> Totals
         ensures { result ≡ zero_totals }
     {
-        Totals {
-            lines: 0,
-            frames: 0,
-            bad_digits: 0,
-            bad_shapes: 0,
-        }
+        Totals::default()
     }
 
     // The totals with one line more: a frame, or refused for `fault`.

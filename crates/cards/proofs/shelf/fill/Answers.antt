@@ -1,9 +1,9 @@
-use Rattle.std.proofs.Common.{sym, arith, rules}
+use Rattle.std.proofs.Common.{rules}
 use Rattle.cards.specs.Numbers.{bytes_fit}
 use Rattle.cards.proofs.shelf.fill.Goals as goal
 
 pub returns : goal.returns
 returns g c =
-    let read = sym c.in_ok-card.ensures.value in
-    let same = g.met.C.Card.lawful.round c.args.bytes.now c.in_ok-card.card (bytes_fit c.args.bytes.now c.type_inv.bytes) read in
-    record { fills = (omega arith, (c.in_ok-card.card, read, same, search rules)) }
+    let fit = bytes_fit c.args.bytes.now c.type_inv.bytes in
+    let laws = g.met.C.Card.lawful in
+    search rules

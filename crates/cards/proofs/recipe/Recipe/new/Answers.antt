@@ -1,14 +1,13 @@
-use Rattle.std.proofs.Common.{sym, arith, rules}
-use Rattle.cards.specs.RecipeLaws.{fine_more, fine_over, recipe_fine}
+use Rattle.std.proofs.Common.{rules, sym}
+use Rattle.cards.specs.RecipeLaws.{recipe_fine}
+use Rattle.cards.proofs.Amounts.{none_over, found_over}
 use Rattle.cards.proofs.recipe.Recipe.new.Goals as goal
 
-pub returns-then-amounts-i-gt-MOST_AMOUNT : goal.returns-then-amounts-i-gt-MOST_AMOUNT
-returns-then-amounts-i-gt-MOST_AMOUNT c = record {
-  value = sym (fine_over c.args.amounts c.loop-i.i (omega arith) (search rules) (omega arith) c.loop-i.invariant);
-}
+pub invariant_of-result : goal.invariant_of-result
+invariant_of-result c = record { fits = none_over c.args.amounts (search rules) (search rules) }
 
-pub loop-i-preserved : goal.loop-i-preserved
-loop-i-preserved c = fine_more c.args.amounts c.loop-i.i (omega arith) (search rules) (omega arith) c.loop-i.invariant
+pub returns-in-Some : goal.returns-in-Some
+returns-in-Some c = record { value = sym (found_over c.args.amounts c.in-Some.i (search rules) (search rules)) }
 
-pub returns : goal.returns
-returns c = record { value = sym (recipe_fine _) }
+pub returns-in-None : goal.returns-in-None
+returns-in-None c = record { value = sym (recipe_fine _) }

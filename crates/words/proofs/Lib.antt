@@ -1,1 +1,0 @@
--- No lemmas are shared.
