@@ -8,7 +8,7 @@ ghost use Rattle.log_words.specs.Lines.{Explains, ExplainsAs, numbered, with_rem
 ghost use Rattle.log_words.specs.Remarks.{Says, remark, KindAfter};
 
 use crate::remarks::{card_remark, setup_kind, setup_remark};
-use frames::{Frame, LineFault, Refused, decode, frame_of};
+use frames::{Frame, LineFault, Refused, decode};
 use settings::KindChoice;
 use std::alloc::{AllocError, Global};
 use words::{FrameInWords, RefusedInWords, Totals};
@@ -35,7 +35,7 @@ impl Log {
     {
         let bytes = decode(line);
         let asked = match &bytes {
-            Ok(bytes) => frame_of(bytes.as_slice()),
+            Ok(bytes) => Frame::try_from(bytes.as_slice()),
             Err(fault) => Err(*fault),
         };
         match asked {

@@ -13,7 +13,7 @@ use std::alloc::{AllocError, Global};
 pub(crate) fn setup_remark(heap: Global, bytes: SetupBytes) -> Result<Option<String>, AllocError>
     ensures { Says result (setup_remark (first_fault bytes)) }
 {
-    let Err(byte) = Setup::from_bytes(&bytes) else {
+    let Err(byte) = Setup::try_from(&bytes) else {
         return Ok(None);
     };
     let place = byte.place();
@@ -42,5 +42,5 @@ pub(crate) fn card_remark(
 pub(crate) fn setup_kind(bytes: SetupBytes) -> Option<KindChoice>
     ensures { TellsKind (first_fault bytes) bytes.kind None result }
 {
-    Setup::from_bytes(&bytes).ok().map(|setup| setup.kind)
+    Setup::try_from(&bytes).ok().map(|setup| setup.kind)
 }

@@ -37,7 +37,7 @@ impl fmt::Display for RefusedInWords {
 
     fn fmt<W: fmt::Write>(&self, f: &mut fmt::Formatter<W>) -> fmt::Result {
         let Refused { why, place } = self.0;
-        let number = why.number();
+        let number = u8::from(why);
         let reason = reason(why);
         write!(f, "refused {number} at byte {place}: {reason}")
     }
