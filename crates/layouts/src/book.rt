@@ -14,7 +14,7 @@ pub enum BookLink {
     Replacement,
 }
 
-// A number that is no link of a book.
+// A number that is no link of a book. A type of its own, beside that of settings: this crate stands on no other.
 #[derive(Clone, Copy, PartialEq, Eq, Debug)]
 pub struct UnknownLink {
     pub number: u8,

@@ -1,5 +1,5 @@
 -- How a record joins an order, and that the orders of a stack and of a ring do so. Assumes nothing.
-use Rattle.std.specs.Prelude.{◌≡◌, ℕ, Bool, true, false, ◌||◌, ◌⊎◌, List, [], ◌∷◌, ◌++◌, ◌==◌, refl}
+use Rattle.std.specs.Prelude.{◌≡◌, ℕ, Bool, true, false, cond, ◌||◌, ◌⊎◌, List, [], ◌∷◌, ◌++◌, ◌==◌, refl}
 use Rattle.std.proofs.Common.{sym, ap, ◌∙◌, inl, inr}
 use Rattle.std.proofs.lemmas.Bool.{and_parts, and_from, not-true, not_from_false, cases_eq, ne_eqb, eq-eqb, eqb-false, or_left, or_from, or_parts, cond-true, cond_both}
 use Rattle.pools.specs.Orders.{listed, apart, put_first, put_last}
@@ -36,16 +36,16 @@ apart_push (z ∷ xs) x a h =
     let ne : (z == x) ≡ false = ne_eqb z x (λ e. eqb-false x z q.0 (sym e)) in
     and_from _ _ (not_from_false _ (listed_push xs x z ∙ or_from _ _ ne (not-true _ p.0))) (apart_push xs x p.1 q.1)
 
-pub put_first_joins : Joins put_first
-put_first_joins = record {
-  lists = λ xs x y. cond_both (listed xs x) _ _ (λ order. listed order y ≡ (y == x || listed xs y)) (listed_already xs x y) (λ e. refl);
-  keeps_apart = λ xs x a. cond_both (listed xs x) _ _ (λ order. apart order ≡ true) (λ e. a) (λ e. and_from _ _ (not_from_false _ e) a);
+-- a member stays where it is, and any other record is added
+joins_by : (added : List ℕ → ℕ → List ℕ) → ((xs : List ℕ) (x y : ℕ) → listed (added xs x) y ≡ (y == x || listed xs y)) → ((xs : List ℕ) (x : ℕ) → apart xs ≡ true → listed xs x ≡ false → apart (added xs x) ≡ true) → Joins (λ xs x. cond (listed xs x) xs (added xs x))
+joins_by added lists keeps = record {
+  lists = λ xs x y. cond_both (listed xs x) _ _ (λ order. listed order y ≡ (y == x || listed xs y)) (listed_already xs x y) (λ e. lists xs x y);
+  keeps_apart = λ xs x a. cond_both (listed xs x) _ _ (λ order. apart order ≡ true) (λ e. a) (keeps xs x a);
   keeps_member = λ xs x e. cond-true (listed xs x) _ _ e;
 }
 
+pub put_first_joins : Joins put_first
+put_first_joins = joins_by (λ xs x. x ∷ xs) (λ xs x y. refl) (λ xs x a e. and_from _ _ (not_from_false _ e) a)
+
 pub put_last_joins : Joins put_last
-put_last_joins = record {
-  lists = λ xs x y. cond_both (listed xs x) _ _ (λ order. listed order y ≡ (y == x || listed xs y)) (listed_already xs x y) (λ e. listed_push xs x y);
-  keeps_apart = λ xs x a. cond_both (listed xs x) _ _ (λ order. apart order ≡ true) (λ e. a) (apart_push xs x a);
-  keeps_member = λ xs x e. cond-true (listed xs x) _ _ e;
-}
+put_last_joins = joins_by (λ xs x. xs ++ x ∷ []) listed_push apart_push
