@@ -13,7 +13,7 @@ pub struct CardBytes {
 }
 
 impl CardBytes {
-    // The first 61 of the bytes; no card has more.
+    // The first 61 of the bytes; no card has more. It may cut, so it is no `From`.
     pub fn of(bytes: &[u8]) -> CardBytes
         ensures value { held result ≡ take 61 bytes.now }
     {

@@ -5,7 +5,7 @@ ghost use Rattle.words.specs.RefusalWords.{reason_words, refused_words};
 use frames::{Refusal, Refused};
 use std::fmt;
 
-// What the refusal says of the call.
+// What the refusal says of the call. `Refusal` is of another crate, so a `Display` here would only wrap this.
 pub fn reason(why: Refusal) -> &'static str
     ensures { result.now ≡ reason_words why }
 {
