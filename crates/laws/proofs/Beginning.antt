@@ -35,7 +35,7 @@ use Rattle.laws.specs.Fits.{Lawful, Working, Sound, Follows}
 use Rattle.laws.proofs.Rows.{upd_here, row_at, column_upd}
 use Rattle.laws.proofs.Words.{one_word}
 use Rattle.laws.proofs.Names.{same_num}
-use Rattle.laws.proofs.Rooms.{firm_on, two_rooms, room_on, is_none_num}
+use Rattle.laws.proofs.Rooms.{firm_on, held_by, two_rooms, room_on, is_none_num}
 use Rattle.laws.proofs.Owed.{ready_of}
 use Rattle.laws.proofs.Spots.{Spotted, spotted_below, link_owner}
 use Rattle.protocol.specs.Effects.{after_reset_scan, after_begin_store, after_retire}
@@ -139,7 +139,7 @@ module _ (t : Table) (ok : Sound t) (p : ℕ) (pS : p < t.sizes.stations) (idle 
   begin_release r e =
       let (k, firm, st, room) = idle in
       let (i, l, h) = named_here r (pass _ _ _ e).0 in
-      plain (plan (Write.Release r ∷ []) (End Outcome.Done)) (owes.release r k i l h (λ j jK ej.
+      plain (plan (Write.Release r ∷ []) (End Outcome.Done)) (owes.release r k (held_by (mine a p).slot (mine a p).held firm r.number) i l h (λ j jK ej.
       owes.paid (record { ups = k.ups; clears = k.clears; downs = k.downs; stores = k.stores; hands = k.hands }, firm_on (mine a p).slot (mine a p).held j None firm, st, room_on j room)))
 
   begin_cas : (q : Spot) (o v : Option Record) → first_failing (begin.ranges z (op.Cas q o v)) ≡ None → first_failing (begin.held t p (op.Cas q o v)) ≡ None → Follows t ok p (begun t p (op.Cas q o v))
@@ -211,7 +211,7 @@ module _ (t : Table) (ok : Sound t) (p : ℕ) (pS : p < t.sizes.stations) (idle 
             (record { ups = k.ups; clears = k.clears; downs = k.downs; stores = k.stores; hands = k.hands }));
         agrees = record { roots = g.roots; links = g.links; counts = g.counts; traces = g.traces; deleteds = g.deleteds; standings = one_word 128 a.standing f r.number Retired small g.standings; slots = g.slots; places = g.places; claims = g.claims; beyond = λ x l. upd_other a.standing r.number Retired x (λ q. omega arith) ∙ g.beyond x l; blank = g.blank };
         after = subst (λ (x : Mine). Owes z.each (AtPoint z n1 (begin_of (op.Delete r) (sight_in z s p) (s.places p) n).does.point) x (begin_of (op.Delete r) (sight_in z s p) (s.places p) n).does.owed) (sym me)
-            (owes.release r (record { ups = k.ups; clears = k.clears; downs = k.downs; stores = k.stores; hands = k.hands }) i iK names (λ x xK ex.
+            (owes.release r (record { ups = k.ups; clears = k.clears; downs = k.downs; stores = k.stores; hands = k.hands }) (held_by m.slot m.held firm r.number) i iK names (λ x xK ex.
             owes.mark_deleted r j (record { below = omega arith; full = there; quiet = record { ups = k.ups; clears = k.clears; downs = k.downs; stores = k.stores; hands = k.hands } })
             (owes.reset_trace r j (record { below = omega arith; full = there; quiet = record { ups = k.ups; clears = k.clears; downs = k.downs; stores = k.stores; hands = k.hands } })
             (owes.clear_done (place j)

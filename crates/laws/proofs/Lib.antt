@@ -22,3 +22,4 @@ pub mod Beginning
 pub mod Promises
 pub mod Touching
 pub mod Places
+pub mod Holding

@@ -106,7 +106,7 @@ module _ (z : Sizes) (y : Lawful z) (p : ℕ) (pS : p < z.stations) (pN : p < 8)
         let u = y.each in
         let l8 : i.index < 8 = omega arith in
         by_step (after_write_slot a (slot_number p i.index) (num v)) (put_slot (upd (mine a p).slot i.index (num v)) (mine a p)) (step.write_slot (slot_number p i.index) (num v) (own_slot p i.index pN l8) (sym (row_at a.held p i.index l8) ∙ h)) (record { roots = g.roots; links = g.links; counts = g.counts; traces = g.traces; deleteds = g.deleteds; standings = g.standings; slots = slot_set i.index v l8; places = g.places; claims = g.claims; beyond = g.beyond; blank = blank_set i.index (num v) l }) (rw (row_upd a.slot p i.index (num v) l8)) o
-    pay _ (owes.release r q i l e o) =
+    pay _ (owes.release r q _ i l e o) =
         let named : num (s.slots p i) ≡ Some r.number = sym (g.slots p i l) ∙ sym (row_at a.slot p i l) ∙ e in
         let k : ℕ = lowest_naming (s.slots p) r in
         let kK : k < 8 = naming_below (s.slots p) r i l named in

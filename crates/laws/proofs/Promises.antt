@@ -8,6 +8,7 @@ use Rattle.work.specs.declared.work.Point.TheVariants.{End, Look}
 use Rattle.work.specs.declared.work.AfterLook.TheVariants as look
 use Rattle.work.specs.Plans.{Plan}
 use Rattle.machine.specs.Tables.{Table}
+use Rattle.machine.specs.Holds.{Hold}
 use Rattle.protocol.specs.Shape.{Used}
 use Rattle.protocol.proofs.Promises.{bounded}
 use Rattle.protocol.proofs.Words.{none_some}
@@ -18,8 +19,9 @@ use Rattle.laws.specs.Owes as owes
 use Rattle.laws.specs.Lists.{place_of, node_of}
 use Rattle.laws.specs.Points.{AtPoint}
 use Rattle.laws.specs.Fits.{Working, Sound}
-use Rattle.laws.specs.Theorems.{fresh_table, begins, turns, RunsAreSound, SoundIsBounded, SoundIsSafe, IdleHold, SoundHolds, IdleEntry, SoundLists, TwoEmpty, CleanHasRoom, SoundPool}
+use Rattle.laws.specs.Theorems.{fresh_table, begins, turns, RunsAreSound, SoundIsBounded, SoundIsSafe, SoundHolds, IdleEntry, SoundLists, SoundPlaces, TwoEmpty, CleanHasRoom, SoundPool}
 use Rattle.laws.proofs.Rows.{row_at}
+use Rattle.laws.proofs.Holding.{verified_holds}
 use Rattle.laws.proofs.Turning.{turn_sound}
 use Rattle.laws.proofs.Checks.{new_sound}
 use Rattle.laws.proofs.Beginning.{begin_sound}
@@ -51,12 +53,16 @@ pub at_rest : (t : Table) (k : Sound t) (p : ℕ) → p < t.sizes.stations → (
 at_rest t k p l e = subst (λ (i : Option Plan). Working t.sizes (t.seats p).notes (mine k.state p) i) e (k.fits.seats p l)
 
 module _ (t : Table) (k : Sound t) where
-  idle_held : (p i : ℕ) (r : Record) → IdleHold t p i r → (slot_number p i < 64) × (slot_number p i / 8 ≡ p) × (k.state.held (slot_number p i) ≡ Some r.number)
-  idle_held p i r h =
+  hold_held : (p i : ℕ) (r : Record) → Hold t p i r → (slot_number p i < 64) × (slot_number p i / 8 ≡ p) × (k.state.held (slot_number p i) ≡ Some r.number)
+  hold_held p i r h =
       let l = h.station in
       let most = k.lawful.stations in
       let e = h.slot in
-      (omega arith, omega arith, sym (row_at k.state.held p i h.slot) ∙ (at_rest t k p h.station h.idle).1 i ∙ row_at k.state.slot p i h.slot ∙ k.fits.agrees.slots p i h.slot ∙ ap num h.names)
+      let names = row_at k.state.slot p i h.slot ∙ k.fits.agrees.slots p i h.slot ∙ ap num h.names in (
+        omega arith,
+        omega arith,
+        sym (row_at k.state.held p i h.slot) ∙ verified_holds t.sizes (t.seats p).notes (mine k.state p) (t.seats p).work i (k.fits.seats p h.station) h.verified r.number names,
+      )
 
   idle_listed : (p i : ℕ) → IdleEntry t p i → (place_number p (place_of (t.seats p).notes.list i) < 512) × (k.state.lists (place_number p (place_of (t.seats p).notes.list i)) ≡ Some (node_of (t.seats p).notes.list i))
   idle_listed p i h =
@@ -69,8 +75,8 @@ module _ (t : Table) (k : Sound t) where
 
 pub sound_holds : SoundHolds
 sound_holds t k = record {
-  live = λ p i r h e. let (c, _, x) = idle_held t k p i r h in k.inv.held.live (slot_number p i) r.number c x (k.fits.agrees.standings r.number ∙ e);
-  alone = λ p q i j r h g e. let (c, cp, x) = idle_held t k p i r h in let (d, dp, y) = idle_held t k q j r g in
+  live = λ p i r h e. let (c, _, x) = hold_held t k p i r h in k.inv.held.live (slot_number p i) r.number c x (k.fits.agrees.standings r.number ∙ e);
+  alone = λ p q i j r h g e. let (c, cp, x) = hold_held t k p i r h in let (d, dp, y) = hold_held t k q j r g in
       sym cp ∙ k.inv.held.alone (slot_number p i) (slot_number q j) r.number c d x y (k.fits.agrees.standings r.number ∙ e) ∙ dp;
 }
 
@@ -88,6 +94,17 @@ sound_lists t k = record {
     twice p q i j h g e same =
         let back : place_of (t.seats q).notes.list j ≡ place_of (t.seats p).notes.list j = ap (λ (x : ℕ). place_of (t.seats x).notes.list j) (sym e) in
         (at_rest t k p h.station h.idle).2.unscanned.filed.front_apart i j h.below (subst (λ (x : ℕ). j < length (t.seats x).notes.list) (sym e) g.below) (same ∙ back)
+
+pub sound_places : SoundPlaces
+sound_places t k = record {
+  retired = λ p j r l h e. sym (k.fits.agrees.standings r.number) ∙ k.inv.listed.retired (place_number p j) r.number (omega arith) (listed p j r l h e);
+  once = λ p q i j r pl ql il jl e g.
+      let same = k.inv.listed.once (place_number p i) (place_number q j) r.number (omega arith) (omega arith) (listed p i r pl il e) (listed q j r ql jl g) in
+      (omega arith, omega arith);
+}
+  where
+    listed : (p j : ℕ) (r : Record) → p < 8 → j < 64 → t.shared.places p j ≡ Some r → k.state.lists (place_number p j) ≡ Some r.number
+    listed p j r l h e = k.inv.claimed.placed (place_number p j) r.number (omega arith) (k.fits.agrees.places p j l ∙ ap num e)
 
 none_of : (v : Option Record) → num v ≡ None → v ≡ None
 none_of None e = refl

@@ -60,6 +60,10 @@ module _ {each : ℕ} {slot : Names} where
   pub room_on : (k : ℕ) → Room each slot → Room each (upd slot k None)
   room_on k (i, e) = (i, record { below = e.below; none = elim (cases_eq k i) [ inl y ↦ upd_same slot k None i y | inr n ↦ upd_other slot k None i n ∙ e.none ] })
 
+-- Where every slot holds what it names, one that names a record holds it.
+pub held_by : (slot held : Names) → Firm slot held → (r k : ℕ) → slot k ≡ Some r → held k ≡ Some r
+held_by slot held firm r k e = firm k ∙ e
+
 -- Slots that hold what they name, one set with its hold.
 pub firm_on : (slot held : Names) (i : ℕ) (v : Option ℕ) → Firm slot held → Firm (upd slot i v) (upd held i v)
 firm_on slot held i v f k = elim (cases_eq i k) [

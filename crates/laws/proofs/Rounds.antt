@@ -19,7 +19,7 @@ use Rattle.laws.specs.Lists.{place_of, Unscanned, First}
 use Rattle.laws.specs.Points.{AtPoint, Firm, Naming, TwoRooms, RoomBeside, HeldHere}
 use Rattle.laws.specs.Fits.{Lawful}
 use Rattle.laws.proofs.Rows.{upd_here}
-use Rattle.laws.proofs.Rooms.{one_room, firm_on, two_rooms}
+use Rattle.laws.proofs.Rooms.{one_room, firm_on, held_by, two_rooms}
 use Rattle.terms.specs.declared.Station.{Station}
 use Rattle.terms.specs.declared.Place.{Place}
 use Rattle.work.specs.declared.work.Reached.{Reached}
@@ -45,7 +45,7 @@ pub releases : {each : ℕ} {At : Mine → Type 0} (m : Mine) (v : Option Record
 releases m None l ws u q firm below (k, d, e) w on = on m.slot m.held firm (k, l, d, e, record { below = w.below; none = w.names })
 releases m (Some r) l ws u q firm below (k, d, e) w on =
     let low = w.below in
-    owes.release r q l (omega arith) w.names (λ j jK ej.
+    owes.release r q (held_by m.slot m.held firm r.number) l (omega arith) w.names (λ j jK ej.
     on (upd m.slot j None) (upd m.held j None) (firm_on m.slot m.held j None firm) (two_rooms k j r.number (below j r.number ej) e ej))
 
 pub release_end : (v : Option Record) → release_of v ++ [] ≡ release_of v
@@ -58,18 +58,18 @@ pub both_releases : {each : ℕ} {At : Mine → Type 0} (m : Mine) (t : Option R
     ((σ η : ℕ → Option ℕ) → Firm σ η → TwoRooms each σ → Owes each At (put_slot σ (put_held η m)) []) → Owes each At m (release_of t ++ Write.Release r ∷ [])
 both_releases m None r l k u q firm below d w v on =
     let low = w.below in
-    owes.release r q l (omega arith) w.names (λ j jK ej.
+    owes.release r q (held_by m.slot m.held firm r.number) l (omega arith) w.names (λ j jK ej.
     on (upd m.slot j None) (upd m.held j None) (firm_on m.slot m.held j None firm) (two_rooms k j r.number (below j r.number ej) (record { below = v.below; none = v.names }) ej))
 both_releases {each = each} {At = At} m (Some t) r l k u q firm below d w v on =
     let low = v.below in
-    owes.release t q k (omega arith) v.names (λ j jK ej. second j ej (elim (cases_eq j l) [
+    owes.release t q (held_by m.slot m.held firm t.number) k (omega arith) v.names (λ j jK ej. second j ej (elim (cases_eq j l) [
       | inl y ↦ (k, omega arith, upd_other m.slot j None k (λ h. d (sym y ∙ h)) ∙ v.names ∙ sym ej ∙ ap m.slot y ∙ w.names)
       | inr i ↦ (l, (let low2 = w.below in omega arith), upd_other m.slot j None l i ∙ w.names)
     ]))
   where
     second : (j : ℕ) → m.slot j ≡ Some t.number → HeldHere (upd m.slot j None) r.number → Owes each At (emptied_slot m j) (Write.Release r ∷ [])
     second j ej (i, iK, ei) =
-        owes.release r (record { ups = q.ups; clears = q.clears; downs = q.downs; stores = q.stores; hands = q.hands }) i iK ei (λ h hK eh.
+        owes.release r (record { ups = q.ups; clears = q.clears; downs = q.downs; stores = q.stores; hands = q.hands }) (held_by (upd m.slot j None) (upd m.held j None) (firm_on m.slot m.held j None firm) r.number) i iK ei (λ h hK eh.
         on (upd (upd m.slot j None) h None) (upd (upd m.held j None) h None) (firm_on (upd m.slot j None) (upd m.held j None) h None (firm_on m.slot m.held j None firm))
         (two_rooms j h r.number (inside j h eh) (record { below = below j t.number ej; none = upd_same m.slot j None j refl }) eh))
       where

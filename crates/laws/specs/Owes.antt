@@ -37,8 +37,8 @@ pub data Owes (each : ℕ) (At : Mine → Type 0) : Mine → List Write → Type
   -- a name, not verified, into a slot that holds nothing
   write_slot : {m : Mine} {ws : List Write} (i : Slot) (v : Option Record) → i.index < each → m.held i.index ≡ None →
       Owes each At (put_slot (upd m.slot i.index (num v)) m) ws → Owes each At m (w.FillSlot i v ∷ ws)
-  -- A slot names the record; whichever is emptied, the rest is right.
-  release : {m : Mine} {ws : List Write} (r : Record) → Quiet m → (i : ℕ) → i < 8 → m.slot i ≡ Some r.number →
+  -- A slot names the record, and each that does holds it; whichever is emptied, the rest is right.
+  release : {m : Mine} {ws : List Write} (r : Record) → Quiet m → ((k : ℕ) → m.slot k ≡ Some r.number → m.held k ≡ Some r.number) → (i : ℕ) → i < 8 → m.slot i ≡ Some r.number →
       ((k : ℕ) → k < 8 → m.slot k ≡ Some r.number → Owes each At (emptied_slot m k) ws) → Owes each At m (w.Release r ∷ ws)
   -- what follows a write of a name into a spot
   raise_count : {m : Mine} {ws : List Write} (r : Record) → m.owes_up ≡ Some r.number → Owes each At (put_owes_up None m) ws → Owes each At m (w.RaiseCount r ∷ ws)

@@ -13,6 +13,7 @@ use Rattle.work.specs.Plans.{Plan, plan, access_of}
 use Rattle.machine.specs.Tables.{Sizes, Table, new_table}
 use Rattle.machine.specs.Steps.{turned}
 use Rattle.machine.specs.Begin.{begin_refusal, begun, place_free}
+use Rattle.machine.specs.Holds.{Hold}
 use Rattle.laws.specs.Lists.{node_of}
 use Rattle.laws.specs.Fits.{Lawful, Sound, Follows}
 
@@ -60,17 +61,10 @@ pub record SpotsSafe (t : Table) : Type 0 where
 abbrev pub SoundIsSafe : Type 0
 SoundIsSafe = (t : Table) → Sound t → SpotsSafe t
 
--- The station p is idle, and r is held in its slot i.
-pub record IdleHold (t : Table) (p i : ℕ) (r : Record) : Type 0 where
-  pub station : p < t.sizes.stations
-  pub idle : (t.seats p).work ≡ None
-  pub slot : i < 8
-  pub names : t.shared.slots p i ≡ Some r
-
--- What an idle station holds is not pooled, and a fresh record is held by one station only.
+-- What a station holds, at rest or at work, is not pooled, and a fresh record is held by one station only.
 pub record HoldsSafe (t : Table) : Type 0 where
-  pub live : (p i : ℕ) (r : Record) → IdleHold t p i r → t.standing r.number ≢ Pooled
-  pub alone : (p q i j : ℕ) (r : Record) → IdleHold t p i r → IdleHold t q j r → t.standing r.number ≡ Fresh → p ≡ q
+  pub live : (p i : ℕ) (r : Record) → Hold t p i r → t.standing r.number ≢ Pooled
+  pub alone : (p q i j : ℕ) (r : Record) → Hold t p i r → Hold t q j r → t.standing r.number ≡ Fresh → p ≡ q
 
 abbrev pub SoundHolds : Type 0
 SoundHolds = (t : Table) → Sound t → HoldsSafe t
@@ -88,6 +82,14 @@ pub record ListsSafe (t : Table) : Type 0 where
 
 abbrev pub SoundLists : Type 0
 SoundLists = (t : Table) → Sound t → ListsSafe t
+
+-- A record in a place, of a station at rest or at work, is retired, and stands in no other place.
+pub record PlacesSafe (t : Table) : Type 0 where
+  pub retired : (p j : ℕ) (r : Record) → p < 8 → j < 64 → t.shared.places p j ≡ Some r → t.standing r.number ≡ Retired
+  pub once : (p q i j : ℕ) (r : Record) → p < 8 → q < 8 → i < 64 → j < 64 → t.shared.places p i ≡ Some r → t.shared.places q j ≡ Some r → (p ≡ q) × (i ≡ j)
+
+abbrev pub SoundPlaces : Type 0
+SoundPlaces = (t : Table) → Sound t → PlacesSafe t
 
 -- Where CLEAN looks at a link, two slots of its station are empty.
 pub record TwoEmpty (t : Table) (p : ℕ) : Type 0 where

@@ -3,7 +3,7 @@
 // theorem, stated in specs/.
 #![tactic(auto)]
 
-ghost use Rattle.laws.specs.Theorems.{NewIsSound, TurnsKeep, BeginningsKeep, RunsAreSound, SoundIsBounded, SoundIsSafe, SoundHolds, SoundLists, CleanHasRoom, TouchesLive, IdleHasPlace, SoundPool};
+ghost use Rattle.laws.specs.Theorems.{NewIsSound, TurnsKeep, BeginningsKeep, RunsAreSound, SoundIsBounded, SoundIsSafe, SoundHolds, SoundLists, SoundPlaces, CleanHasRoom, TouchesLive, IdleHasPlace, SoundPool};
 
 // A new table is sound.
 pub fn new_tables_are_sound() -> ()
@@ -35,14 +35,19 @@ pub fn spots_name_no_pooled_record() -> ()
     ensures { SoundIsSafe }
 {}
 
-// What an idle station holds is not pooled, and a fresh record is held by one station only.
+// What a station holds, at rest or at work, is not pooled, and a fresh record is held by one station only.
 pub fn holds_are_safe() -> ()
     ensures { SoundHolds }
 {}
 
-// A listed record is retired, and listed once.
+// A record in the list of an idle station is retired, and listed once.
 pub fn listed_is_retired() -> ()
     ensures { SoundLists }
+{}
+
+// A record in a place of any station is retired, and in no other place.
+pub fn placed_is_retired() -> ()
+    ensures { SoundPlaces }
 {}
 
 // Where CLEAN looks at a link, two slots of its station are empty.

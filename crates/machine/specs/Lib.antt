@@ -1,4 +1,5 @@
 pub mod Tables
 pub mod Steps
 pub mod Begin
+pub mod Holds
 pub mod Solo
