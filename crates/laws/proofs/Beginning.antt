@@ -16,7 +16,7 @@ use Rattle.work.specs.declared.work.AfterLook.TheVariants as look
 use Rattle.work.specs.declared.work.AfterSwap.TheVariants as swap
 use Rattle.work.specs.declared.work.AfterStore.TheVariants as store
 use Rattle.work.specs.declared.work.Point.TheVariants.{End, Take, Look, Swap, Save}
-use Rattle.work.specs.Plans.{Plan, plan, Notes, place, made, pushed}
+use Rattle.work.specs.Plans.{Plan, plan, Notes, place, with_note, pushed}
 use Rattle.work.specs.Steps.{begin_of}
 use Rattle.machine.specs.Tables.{Sizes, sight_in, Table}
 use Rattle.protocol.specs.Words.{upd}
@@ -191,7 +191,7 @@ module _ (t : Table) (ok : Sound t) (p : ℕ) (pS : p < t.sizes.stations) (idle 
       let m1 : Mine = put_lists (upd m.lists j (Some r.number)) (rested m) in
       let me : mine a1 p ≡ m1 = ap (λ (x : ℕ → Option ℕ). put_lists x (mine a0 p)) (column_upd a.lists p j (Some r.number)) ∙ ap (put_lists (upd m.lists j (Some r.number))) (reset_mine a p pN) in
       let e : Entry = record { place = place j; node = r } in
-      let n1 : Notes = made n (Note.Push e) in
+      let n1 : Notes = with_note n (Note.Push e) in
       let short = st.short in
       let longer : Filed z.t1 (upd m.lists j (Some r.number)) (pushed n.list e) (length (pushed n.list e)) [] =
       subst (λ (x : List Entry). Filed z.t1 (upd m.lists j (Some r.number)) x (length x) []) (sym (pushed_snoc n.list e (omega arith))) (adds z.t1 m.lists n.list e st.unscanned.filed short low free) in

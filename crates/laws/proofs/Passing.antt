@@ -11,7 +11,7 @@ use Rattle.work.specs.declared.work.AfterSwap.TheVariants as swap
 use Rattle.work.specs.declared.work.AfterStore.TheVariants as store
 use Rattle.work.specs.declared.work.Point.{Point}
 use Rattle.work.specs.declared.work.Point.TheVariants.{Swap, Save, CountSecond, AskTrace, AskClaims, AskLink}
-use Rattle.work.specs.Plans.{Plan, plan, Notes, Sight, position, reached, made, noted, kept_too, pushed}
+use Rattle.work.specs.Plans.{Plan, plan, Notes, Sight, position, reached, with_note, noted, kept_too, pushed}
 use Rattle.work.specs.Steps.{quiet, Turn, second_next, second_at, count_kept, counted_second, traced_of, claims_of}
 use Rattle.machine.specs.Tables.{Sizes, sight_in}
 use Rattle.protocol.specs.Words.{upd}
@@ -62,7 +62,7 @@ second_point z y some n m e keep ws u same k firm c w d long ahead read seen nam
     go keep d long None (over q) =
         let whole : Filed z.t1 m.lists (kept_too n.kept keep) (length (kept_too n.kept keep)) [] = shuts z.t1 m.lists n.list (kept_too n.kept keep) (subst (λ (i : ℕ). Filed z.t1 m.lists n.list i (kept_too n.kept keep)) q d) in
         let room = whole.room in
-        cond_both (eqb (count_kept n keep) u.t1) _ _ (λ (x : Point). AtPoint z (made n (Note.Close keep)) x m)
+        cond_both (eqb (count_kept n keep) u.t1) _ _ (λ (x : Point). AtPoint z (with_note n (Note.Close keep)) x m)
         (λ t. (k, firm, record { unscanned = record { filed = whole; kept = refl; unseen = λ r. refl; named = names; settled = settled }; station_in = some; place_in = y.some_place; claim = c.0; rooms = c.1 }))
         (λ t. (k, firm, record { unscanned = record { filed = whole; kept = refl; unseen = λ r. refl; named = names; settled = settled }; short = shorter (length (kept_too n.kept keep)) (λ h. eqb-false (count_kept n keep) u.t1 t (sym long ∙ h)) room; claimless = c.0 }, one_room c.1))
       where

@@ -6,7 +6,7 @@ use Rattle.terms.specs.declared.Slot.{Slot}
 use Rattle.terms.specs.declared.Standing.{Standing}
 use Rattle.memory.specs.Shared.{Shared}
 use Rattle.work.specs.declared.work.Point.{Point}
-use Rattle.work.specs.Plans.{plan, Notes, slot, station, head_of, made, saw}
+use Rattle.work.specs.Plans.{plan, Notes, slot, station, head_of, with_note, saw}
 use Rattle.machine.specs.Tables.{Sizes, sight_in}
 use Rattle.protocol.specs.State.{State}
 use Rattle.protocol.specs.Invariant.{Inv}
@@ -88,17 +88,17 @@ module _ (z : Sizes) (y : Lawful z) (p : ℕ) (pS : p < z.stations) (pN : p < 8)
       let m : Mine = put_read (suc x) (put_seen (seeing (num v) (a.seen p)) (mine a p)) in
       let here : Step shape a p t = step.read_slot x (num v) e (g.slots q.number i.index (omega arith)) in
       let saws : (r : ℕ) → r < 128 → seeing (num v) (a.seen p) r ≡ saw n.seen v r = saw_same v (a.seen p) n.seen seen in
-      cond_both (ltb (i.index + 1) z.each) _ _ (λ (o : Point). Turned z p s f a (λ m. Owes z.each (AtPoint z (made n (Note.See v)) o) m []))
+      cond_both (ltb (i.index + 1) z.each) _ _ (λ (o : Point). Turned z p s f a (λ m. Owes z.each (AtPoint z (with_note n (Note.See v)) o) m []))
       (λ u. let l = ltb-true (i.index + 1) z.each u in
       record {
         to = t;
         moves = one_move shape a p t here;
         agrees = gt;
-        after = subst (λ (m : Mine). Owes z.each (AtPoint z (made n (Note.See v)) (AskSlot q (slot (i.index + 1)))) m []) (sym (read_mine a p x (num v)))
+        after = subst (λ (m : Mine). Owes z.each (AtPoint z (with_note n (Note.See v)) (AskSlot q (slot (i.index + 1)))) m []) (sym (read_mine a p x (num v)))
             (owes.paid (record { ups = k.ups; clears = k.clears; downs = k.downs; stores = k.stores; hands = k.hands }, firm, c, d, kept, names, settled, some, passes, qS, l, omega arith, saws));
       })
       (λ u. let l = ltb-false (i.index + 1) z.each u in
-      cond_both (ltb (q.number + 1) z.stations) _ _ (λ (o : Point). Turned z p s f a (λ m. Owes z.each (AtPoint z (made n (Note.See v)) o) m []))
+      cond_both (ltb (q.number + 1) z.stations) _ _ (λ (o : Point). Turned z p s f a (λ m. Owes z.each (AtPoint z (with_note n (Note.See v)) o) m []))
       (λ w. let more = ltb-true (q.number + 1) z.stations w in
       let two = y.two_slots in
       let on = skips z p s f (8 - z.each) (suc x) t gt (upd_here a.read p (suc x)) (λ j low high. inl (omega arith)) in
@@ -106,7 +106,7 @@ module _ (z : Sizes) (y : Lawful z) (p : ℕ) (pS : p < z.stations) (pN : p < 8)
         to = on.to;
         moves = moves_on shape a p t on.to (one_move shape a p t here) on.moves;
         agrees = on.agrees;
-        after = subst (λ (m : Mine). Owes z.each (AtPoint z (made n (Note.See v)) (AskSlot (station (q.number + 1)) (slot 0))) m []) (sym (on.after ∙ ap (λ (m : Mine). put_read (suc x + (8 - z.each)) m) (read_mine a p x (num v))))
+        after = subst (λ (m : Mine). Owes z.each (AtPoint z (with_note n (Note.See v)) (AskSlot (station (q.number + 1)) (slot 0))) m []) (sym (on.after ∙ ap (λ (m : Mine). put_read (suc x + (8 - z.each)) m) (read_mine a p x (num v))))
             (owes.paid (record { ups = k.ups; clears = k.clears; downs = k.downs; stores = k.stores; hands = k.hands }, firm, c, d, kept, names, settled, some, passes, more, omega arith, omega arith, saws));
       })
       (λ w. let last = ltb-false (q.number + 1) z.stations w in
@@ -115,7 +115,7 @@ module _ (z : Sizes) (y : Lawful z) (p : ℕ) (pS : p < z.stations) (pN : p < 8)
         to = on.to;
         moves = moves_on shape a p t on.to (one_move shape a p t here) on.moves;
         agrees = on.agrees;
-        after = subst (λ (m : Mine). Owes z.each (AtPoint z (made n (Note.See v)) (second_start (head_of n.list))) m []) (sym (on.after ∙ ap (λ (m : Mine). put_read (suc x + (64 - suc x)) m) (read_mine a p x (num v))))
+        after = subst (λ (m : Mine). Owes z.each (AtPoint z (with_note n (Note.See v)) (second_start (head_of n.list))) m []) (sym (on.after ∙ ap (λ (m : Mine). put_read (suc x + (64 - suc x)) m) (read_mine a p x (num v))))
             (owes.paid (begins (suc x + (64 - suc x)) (omega arith) (seeing (num v) (a.seen p)) saws (head_of n.list) (walk n.list (length n.list) (omega arith))));
       }))
     where
@@ -123,7 +123,7 @@ module _ (z : Sizes) (y : Lawful z) (p : ℕ) (pS : p < z.stations) (pN : p < 8)
       rest j low high l last = elim (cases_lt j (8 * (q.number + 1))) [ inl h ↦ inl (let u = y.each in omega arith) | inr h ↦ inr (omega arith) ]
 
       begins : (w : ℕ) → 64 ≤ w → (sees : ℕ → Bool) → ((r : ℕ) → r < 128 → sees r ≡ saw n.seen (s.slots q.number i.index) r) → (h : Option Reached) → Walk n.list (length n.list) h →
-          AtPoint z (made n (Note.See (s.slots q.number i.index))) (second_start h) (put_read w (put_seen sees (mine a p)))
+          AtPoint z (with_note n (Note.See (s.slots q.number i.index))) (second_start h) (put_read w (put_seen sees (mine a p)))
       begins w l sees saws None (over h) = absurd (omega arith)
       begins w l sees saws (Some x) (at _ h j) = (
         record { ups = k.ups; clears = k.clears; downs = k.downs; stores = k.stores; hands = k.hands },

@@ -9,9 +9,9 @@ const POSITIONS: u8 = 3;
 
 #[derive(Clone, Copy, PartialEq, Eq, Debug)]
 pub enum BookLink {
-    Next,
-    Origin,
-    Replacement,
+    Next = 0,
+    Origin = 1,
+    Replacement = 2,
 }
 
 // A number that is no link of a book. A type of its own, beside that of settings: this crate stands on no other.
@@ -39,11 +39,7 @@ impl From<BookLink> for u8 {
     ghost from_gives = { λ link number. number ≡ link_number link };
 
     fn from(link: BookLink) -> u8 {
-        match link {
-            BookLink::Next => 0,
-            BookLink::Origin => 1,
-            BookLink::Replacement => 2,
-        }
+        link as u8
     }
 }
 

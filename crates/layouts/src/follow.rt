@@ -10,7 +10,7 @@ pub struct Follow {
     // how many link positions a record has
     pub positions: u8,
     // for each position the one that follows it; 0 past the last
-    // beside a length, and no `ArrayVec`: that is no copy type, and what a station sees of the table is copied
+    // Kept an array beside a number: past the last position it reads as 0, where a vector of the positions alone has nothing.
     pub next: [u8; 4],
     ghost some: { 1 ≤ positions },
     ghost few: { positions ≤ 4 },

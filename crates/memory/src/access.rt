@@ -77,6 +77,7 @@ pub enum Access {
 }
 
 // What an access finds.
+// `Nothing` stays a case: an `Option` round the others would be taken apart twice by each that reads a name, a mark or a number.
 #[derive(Clone, Copy)]
 pub enum Found {
     Nothing,

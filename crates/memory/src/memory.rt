@@ -22,6 +22,7 @@ pub(crate) struct RecordWords {
     pub(crate) links: [Name; POSITIONS],
 }
 
+// `BLANK` stays a constant here and below: with a derived `Default` the proof of `Memory::new` was not found.
 impl RecordWords {
     pub(crate) const BLANK: RecordWords = RecordWords {
         count: 0,

@@ -1,5 +1,6 @@
 // The words of a record, a slot and a place, read and changed together. Past the last record, station, slot or place a read
 // finds blank words and a change changes nothing.
+// Those of a record and of a place stay two each: a record is found by one number and a place by two.
 ghost use Rattle.std.specs.Prelude.{◌≡◌};
 ghost use Rattle.std.specs.Fn.{FnOnceReturnsAtMut};
 ghost use Rattle.memory.specs.declared.memory.RecordWords.{RecordWords as WordsOfRecord};

@@ -1,5 +1,5 @@
 // What holds of every pool, whatever it prefers.
-ghost use Rattle.std.specs.Prelude.{◌≡◌, true};
+ghost use Rattle.std.specs.Prelude.{◌≡◌, ◌≤◌, true, length, IfOk};
 ghost use Rattle.pools.specs.Sets.{nothing, Takes};
 ghost use Rattle.pools.specs.Orders.{listed, apart};
 ghost use Rattle.pools.specs.Issues.{issued, IssuesAgain};
@@ -20,6 +20,7 @@ pub fn take_member<P: Pool>(pool: &mut P) -> Option<u8>
 // Takes until none is left: each member is issued exactly once, and nothing else is.
 pub fn drain<P: Pool>(pool: &mut P) -> Issued
     ensures once { apart (issued result) ≡ true }
+    ensures few { length (issued result) ≤ 128 }
     ensures all { listed (issued result) ≡ P.Pool.has pool.old }
     ensures empty { P.Pool.has pool.new ≡ nothing }
     ensures size { P.Pool.size pool.new ≡ P.Pool.size pool.old }
@@ -34,6 +35,7 @@ pub fn drain<P: Pool>(pool: &mut P) -> Issued
 // What is given is issued again: gives a record and then takes until none is left.
 pub fn give_and_drain<P: Pool>(pool: &mut P, node: u8) -> Result<Issued, OutOfPool>
     ensures again { IssuesAgain (P.Pool.size pool.old) node (P.Pool.has pool.old) result (P.Pool.has pool.new) }
+    ensures few { IfOk result (λ nodes. length (issued nodes) ≤ 128) }
     ensures size { P.Pool.size pool.new ≡ P.Pool.size pool.old }
 {
     pool.give(node)?;

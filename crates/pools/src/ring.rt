@@ -1,6 +1,5 @@
 // A pool that issues the longest rested first.
 ghost use Rattle.std.specs.Prelude.{◌≡◌, ◌<◌, ◌≤◌};
-ghost use Rattle.pools.specs.Orders.{wrapped};
 
 use crate::line::Line;
 use crate::line_pool::LinePool;
@@ -46,25 +45,14 @@ impl Line for LongestRestedFirst {
             return None;
         }
         let node = self.items[self.head as usize];
-        self.head = wrap(self.head + 1);
+        self.head = (self.head + 1) % PLACES;
         self.len -= 1;
         Some(node)
     }
 
     fn join(&mut self, node: u8) {
-        let place = wrap(self.head + self.len);
+        let place = (self.head + self.len) % PLACES;
         self.items[place as usize] = node;
         self.len += 1;
-    }
-}
-
-// A place that runs past the end starts again at 0.
-fn wrap(place: u8) -> u8
-    ensures { result ≡ wrapped place }
-{
-    if place < PLACES {
-        place
-    } else {
-        place - PLACES
     }
 }

@@ -9,14 +9,14 @@ use std::ops::RangeInclusive;
 
 #[derive(Clone, Copy, PartialEq, Eq, Debug)]
 pub enum SetupByte {
-    Stations,
-    Slots,
-    Records,
-    Roots,
-    T1,
-    T2,
-    Kind,
-    Pool,
+    Stations = 1,
+    Slots = 2,
+    Records = 3,
+    Roots = 4,
+    T1 = 5,
+    T2 = 6,
+    Kind = 7,
+    Pool = 8,
 }
 
 impl SetupByte {
@@ -25,16 +25,7 @@ impl SetupByte {
     pub fn place(self) -> u8
         ensures { result ≡ place_of self }
     {
-        match self {
-            SetupByte::Stations => 1,
-            SetupByte::Slots => 2,
-            SetupByte::Records => 3,
-            SetupByte::Roots => 4,
-            SetupByte::T1 => 5,
-            SetupByte::T2 => 6,
-            SetupByte::Kind => 7,
-            SetupByte::Pool => 8,
-        }
+        self as u8
     }
 
     // What a good byte at its place is, in words.

@@ -4,14 +4,14 @@ ghost use Rattle.std.specs.Prelude.{◌≡◌};
 
 #[derive(Clone, Copy, PartialEq, Eq, Debug)]
 pub enum KindChoice {
-    ChainOfSlips,
-    BookOfRecipes,
+    ChainOfSlips = 0,
+    BookOfRecipes = 1,
 }
 
 #[derive(Clone, Copy, PartialEq, Eq, Debug)]
 pub enum PoolChoice {
-    Stack,
-    Ring,
+    Stack = 0,
+    Ring = 1,
 }
 
 // A number that names no choice.
@@ -38,10 +38,7 @@ impl From<KindChoice> for u8 {
     ghost from_gives = { λ kind number. number ≡ kind_number kind };
 
     fn from(kind: KindChoice) -> u8 {
-        match kind {
-            KindChoice::ChainOfSlips => 0,
-            KindChoice::BookOfRecipes => 1,
-        }
+        kind as u8
     }
 }
 
@@ -63,9 +60,6 @@ impl From<PoolChoice> for u8 {
     ghost from_gives = { λ pool number. number ≡ pool_number pool };
 
     fn from(pool: PoolChoice) -> u8 {
-        match pool {
-            PoolChoice::Stack => 0,
-            PoolChoice::Ring => 1,
-        }
+        pool as u8
     }
 }

@@ -4,7 +4,7 @@ ghost use Rattle.std.specs.Prelude.{◌≤◌};
 use crate::bytes::{SetupByte, checked};
 use frames::SetupBytes;
 
-// pairs of numbers: today's Rattle takes no range as the value of a constant
+// Kept pairs of numbers: a range as the value of a constant is not supported, and a struct of two numbers would be a range by hand.
 pub const MIN_STATIONS: u8 = 1;
 
 pub const MAX_STATIONS: u8 = 8;

@@ -1,13 +1,12 @@
 // The words of the subject as types. Each number is a type of its own, so that a slot
 // cannot stand where a place is meant.
-// Kept six structs of one number: one generic number would ask for a marker type and a
-// phantom field for each of them.
+// Kept six structs of one number: one generic number would tell its kind by a marker or a code.
 #![tactic(auto)]
 
 pub mod tables;
 
 // A record of the table.
-#[derive(Clone, Copy, Default, PartialEq, Eq, PartialOrd, Ord)]
+#[derive(Clone, Copy, Default, PartialEq, Eq)]
 pub struct Record {
     pub number: u8,
 }

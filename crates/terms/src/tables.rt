@@ -26,9 +26,10 @@ pub fn cell<T: Copy, const W: usize>(rows: &[[T; W]], i: u8, x: u8, default: T) 
     }
 }
 
-pub fn set_cell<T: Drop, const W: usize>(rows: &mut [[T; W]], i: u8, x: u8, v: T)
+pub fn set_cell<T: Copy, const W: usize>(rows: &mut [[T; W]], i: u8, x: u8, v: T)
     ensures { (d : T) → ◌≡◌ {A = ℕ → ℕ → T} (cells d rows.new) (put_in (length rows.old) W (cells d rows.old) i x v) }
 {
+    // Kept an index, as in `set_word`.
     if (i as usize) < rows.len() {
         set_word(&mut rows[i as usize], x, v);
     }
@@ -48,6 +49,7 @@ pub fn filled<T: Copy, const W: usize>(v: T) -> [T; W]
     [v; W]
 }
 
+// Kept beside `filled`: its contract speaks of cells, and it is one call of that.
 pub fn rows_filled<T: Copy, const W: usize, const H: usize>(v: T) -> [[T; W]; H]
     ensures { ◌≡◌ {A = ℕ → ℕ → T} (cells v result) (λ _ _. v) }
 {

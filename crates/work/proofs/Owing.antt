@@ -1,5 +1,5 @@
 -- The writes that stand among some that may be none: the first of them, and the rest once it is taken out.
-use Rattle.std.proofs.Common.{◌≡◌, ℕ, zero, suc, ◌+◌, ◌<◌, true, false, List, [], ◌∷◌, length, get_or, set, Some, None, Option, refl, sym, ◌∙◌, arith}
+use Rattle.std.proofs.Common.{◌≡◌, ℕ, zero, suc, ◌+◌, ◌<◌, true, false, List, [], ◌∷◌, ◌++◌, length, get_or, set, drop, replicate, Some, None, Option, refl, sym, ap, ◌∙◌, arith}
 use Rattle.std.specs.List.{position, position_from}
 use Rattle.std.specs.Option.{is_some}
 use Rattle.std.proofs.lemmas.Bool.{true≢false}
@@ -31,3 +31,15 @@ none_stands os e = none_from os 0 (sym (position_from-zero is_some os) ∙ e)
 pub nothing_first : (ws : List Write) → is_some (first_write ws) ≡ false → ws ≡ []
 nothing_first [] e = refl
 nothing_first (w ∷ ws) e = absurd (true≢false e)
+
+-- What stands behind them and is none adds nothing.
+pub none_behind : (os ps : List (Option Write)) → present ps ≡ [] → present (os ++ ps) ≡ present os
+none_behind [] ps e = e
+none_behind (None ∷ os) ps e = none_behind os ps e
+none_behind (Some w ∷ os) ps e = ap (λ (ws : List Write). w ∷ ws) (none_behind os ps e)
+
+pub all_none : (m n : ℕ) → present (drop n (replicate m None)) ≡ []
+all_none zero zero = refl
+all_none zero (suc n) = refl
+all_none (suc m) zero = all_none m zero
+all_none (suc m) (suc n) = all_none m n

@@ -20,7 +20,6 @@ use Rattle.work.specs.declared.work.Point.TheVariants.{End, Take, Look, LookAgai
 use Rattle.work.specs.declared.work.Owed.{Owed}
 use Rattle.work.specs.declared.work.Work.{Work}
 use Rattle.work.specs.declared.known.Known.{Known}
-use Rattle.work.specs.declared.notes.Entries.{Entries}
 use Rattle.work.specs.declared.notes.Seen.{Seen}
 use Rattle.work.specs.declared.notes.Notes as code
 use Rattle.work.specs.declared.notes.Note.{Note}
@@ -120,14 +119,11 @@ pub record Notes : Type 0 where
   pub kept : List Entry
   pub seen : ℕ → Bool
 
-abbrev pub entries_of : Entries → List Entry
-entries_of l = l.entries.items
-
 abbrev pub seen_of : Seen → ℕ → Bool
 seen_of s = reads false s.marks
 
 abbrev pub notes_of : code.Notes → Notes
-notes_of n = record { list = entries_of n.list; kept = entries_of n.kept; seen = seen_of n.seen }
+notes_of n = record { list = n.list; kept = n.kept; seen = seen_of n.seen }
 
 -- a new station's: nothing
 abbrev pub no_notes : Notes
@@ -146,15 +142,15 @@ kept_too es None = es
 kept_too es (Some e) = pushed es e
 
 -- the notes after a change, and after one or none
-abbrev pub made : Notes → Note → Notes
-made n (note.Push e) = record { list = pushed n.list e; kept = n.kept; seen = n.seen }
-made n (note.See v) = record { list = n.list; kept = n.kept; seen = saw n.seen v }
-made n (note.Keep e) = record { list = n.list; kept = pushed n.kept e; seen = n.seen }
-made n (note.Close k) = record { list = kept_too n.kept k; kept = []; seen = λ _. false }
+abbrev pub with_note : Notes → Note → Notes
+with_note n (note.Push e) = record { list = pushed n.list e; kept = n.kept; seen = n.seen }
+with_note n (note.See v) = record { list = n.list; kept = n.kept; seen = saw n.seen v }
+with_note n (note.Keep e) = record { list = n.list; kept = pushed n.kept e; seen = n.seen }
+with_note n (note.Close k) = record { list = kept_too n.kept k; kept = []; seen = λ _. false }
 
 abbrev pub noted : Notes → Option Note → Notes
 noted n None = n
-noted n (Some x) = made n x
+noted n (Some x) = with_note n x
 
 -- The entry that a walk from the head comes to where n are left, and how many come after it.
 abbrev pub reached : List Entry → ℕ → Option Reached

@@ -28,7 +28,7 @@ use Rattle.work.specs.declared.work.Point.{Point}
 use Rattle.work.specs.declared.work.Point.TheVariants.{End, Take, Look, LookAgain, Verify, Swap, Save, Overwrite, AskDeleted, AskPlace, AskDone, AskPlaceAgain, CountFirst, CountAgain, AskSlot, CountSecond, AskTrace, AskClaims, AskLink, Give}
 use Rattle.work.specs.declared.notes.Note.{Note}
 use Rattle.work.specs.declared.turn.Turn as code
-use Rattle.work.specs.Plans.{Plan, plan, plan_of, Going, busy, ended, Sight, Notes, free_slot, station, slot, place, position, made, noted, reached, head_of}
+use Rattle.work.specs.Plans.{Plan, plan, plan_of, Going, busy, ended, Sight, Notes, free_slot, station, slot, place, position, with_note, noted, reached, head_of}
 
 -- What a decision comes to: a plan, and a change of the station's notes.
 pub record Turn : Type 0 where
@@ -316,7 +316,7 @@ free_place s places = place (lowest (λ i. is_none (places i)) s.t1)
 abbrev pub delete_of : Record → Place → Sight → Notes → Turn
 delete_of r i s n =
     turn (plan (Write.Release r ∷ Write.SetDeleted r ∷ Write.ClearTraceOfListed r ∷ Write.ClearDone i ∷ Write.FillPlace i r ∷ [])
-    (round_of s (made n (Note.Push (record { place = i; node = r })))))
+    (round_of s (with_note n (Note.Push (record { place = i; node = r })))))
     (Some (Note.Push (record { place = i; node = r })))
 
 abbrev pub begin_of : Operation → Sight → (ℕ → Option Record) → Notes → Turn

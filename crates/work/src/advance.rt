@@ -95,8 +95,7 @@ impl Known<'_> {
         }
     }
 
-    // Kept a switch on where the station stands: it stands there from one turn to the next, so that is data of a fixed
-    // size; a closure would have to lie on the heap.
+    // Kept a switch: where a station stands lasts from one turn to the next, so it is data of a fixed size; a closure would lie on the heap.
     fn decide(&self, point: Point, found: Found) -> Turn
         ensures { turn_of result ≡ decide_of point found (seen_by self.now) (noted_by self.now) }
     {

@@ -34,6 +34,7 @@ pub(crate) fn clean(node: Record, position: Position, round: Round) -> Point
     )
 }
 
+// A station and its place stay two parameters, as the accesses have two fields: a struct would be taken apart and built again.
 impl Known<'_> {
     // A round of DELETE.
     pub(crate) fn round(&self) -> Point

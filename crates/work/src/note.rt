@@ -1,6 +1,6 @@
 // A station's notes, and a change of them.
-ghost use Rattle.std.specs.Prelude.{◌≡◌};
-ghost use Rattle.work.specs.Plans.{entries_of, notes_of, kept_too, made, noted, no_notes};
+ghost use Rattle.std.specs.Prelude.{◌≡◌, ◌≤◌, length};
+ghost use Rattle.work.specs.Plans.{notes_of, kept_too, with_note, noted, no_notes};
 
 use crate::notes::*;
 use crate::work::Entry;
@@ -9,7 +9,7 @@ use std::mem;
 impl Entries {
     // The entry, if there is one, becomes the head.
     fn push_if(&mut self, entry: Option<Entry>)
-        ensures { entries_of self.new ≡ kept_too (entries_of self.old) entry }
+        ensures { self.new ≡ kept_too self.old entry }
     {
         if let Some(entry) = entry {
             self.push(entry);
@@ -29,9 +29,17 @@ impl Notes {
         }
     }
 
+    // The records that it withdrew and did not give back yet, the head last.
+    pub fn list(&self) -> &[Entry]
+        ensures value { result.now ≡ (notes_of self.now).list }
+        ensures few { length result.now ≤ 64 }
+    {
+        self.list.entries.as_slice()
+    }
+
     // What a SCAN kept, perhaps with one entry more, is the list now.
     fn close(&mut self, last: Option<Entry>)
-        ensures { notes_of self.new ≡ made (notes_of self.old) (Note.Close last) }
+        ensures { notes_of self.new ≡ with_note (notes_of self.old) (Note.Close last) }
     {
         self.list = mem::replace(&mut self.kept, Entries::empty());
         self.list.push_if(last);
@@ -39,7 +47,7 @@ impl Notes {
     }
 
     fn make(&mut self, note: Note)
-        ensures { notes_of self.new ≡ made (notes_of self.old) note }
+        ensures { notes_of self.new ≡ with_note (notes_of self.old) note }
     {
         match note {
             Note::Push(entry) => self.list.push(entry),

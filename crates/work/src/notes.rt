@@ -1,6 +1,7 @@
 // What a station keeps for itself: its list, and what a SCAN collects.
 use crate::work::Entry;
 use arrayvec::ArrayVec;
+use std::marker::Model;
 use terms::Name;
 
 pub const ENTRIES: usize = 64;
@@ -8,9 +9,20 @@ pub const ENTRIES: usize = 64;
 pub const SEEN: usize = 128;
 
 // Entries in the order in which they came; the last is the head of the list.
-#[derive(Drop)]
+#[derive(Clone, Drop)]
 pub struct Entries {
     pub(crate) entries: ArrayVec<Entry, ENTRIES>,
+}
+
+impl Model for Entries {
+    ghost use Rattle.std.specs.Prelude.{List, length, ◌≤◌};
+    ghost use Rattle.work.specs.declared.work.Entry.{Entry as Item};
+
+    ghost Value = { List Item };
+
+    ghost view = { λ e. e.entries.items };
+
+    ghost invariant = { λ e. length e.entries.items ≤ 64 };
 }
 
 // The records that a SCAN saw in slots.
@@ -19,7 +31,7 @@ pub struct Seen {
     pub(crate) marks: [bool; SEEN],
 }
 
-#[derive(Drop)]
+#[derive(Clone, Drop)]
 pub struct Notes {
     // The records withdrawn and not given back yet.
     pub(crate) list: Entries,

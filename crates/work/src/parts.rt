@@ -1,7 +1,7 @@
 // Small parts of a station's private work: names, numbers, and its notes.
-ghost use Rattle.std.specs.Prelude.{◌≡◌, ℕ, ◌+◌, ◌<◌, ◌≤◌, Bool, false, [], length, Some, None, MatchOption};
+ghost use Rattle.std.specs.Prelude.{◌≡◌, ℕ, ◌+◌, ◌<◌, ◌≤◌, Bool, false, [], length, Some, None};
 ghost use Rattle.terms.specs.Words.{reads, lowest, is_none};
-ghost use Rattle.work.specs.Plans.{entries_of, notes_of, seen_of, pushed, saw, kept_too, noted, no_notes, reached, head_of, free_slot, next_position, after_in_rows, sight_of, position};
+ghost use Rattle.work.specs.Plans.{seen_of, pushed, saw, reached, head_of, free_slot, next_position, after_in_rows, sight_of, position};
 
 use crate::notes::*;
 use crate::sight::Sight;
@@ -10,8 +10,8 @@ use arrayvec::ArrayVec;
 use terms::tables::*;
 use terms::{Name, Position, Record, Slot, Station};
 
-// The lowest index below `count` with no name, or `count` where all are taken. Kept a loop that yields its index by
-// `break`: a rule of the project for the lowest empty slot; and a plain number, since a write past the end changes nothing.
+// The lowest index below `count` with no name, or `count` where all are taken.
+// Kept a loop that yields its index by `break`, as our customer asked of the lowest empty slot; where none is, a write changes nothing.
 pub(crate) fn lowest_empty(names: &[Name], count: u8) -> u8
     ensures { result ≡ lowest (λ i. is_none (reads None names.now i)) count }
 {
@@ -74,7 +74,7 @@ impl Sight {
 
 impl Entries {
     pub(crate) fn empty() -> Entries
-        ensures { entries_of result ≡ [] }
+        ensures { result ≡ [] }
     {
         Entries {
             entries: ArrayVec::new(),
@@ -83,20 +83,20 @@ impl Entries {
 
     // One entry more, which is the head now. A full list stays as it is.
     pub(crate) fn push(&mut self, entry: Entry)
-        ensures { entries_of self.new ≡ pushed (entries_of self.old) entry }
+        ensures { self.new ≡ pushed self.old entry }
     {
         let _ = self.entries.try_push(entry);
     }
 
     pub(crate) fn count(&self) -> u8
-        ensures { result ≡ length (entries_of self.now) }
+        ensures { result ≡ length self.now }
     {
         self.entries.len() as u8
     }
 
     // The entry that a walk from the head comes to where so many are left.
     pub(crate) fn reach(&self, left: u8) -> Option<Reached>
-        ensures { result ≡ reached (entries_of self.now) left }
+        ensures { result ≡ reached self.now left }
     {
         let left = left.checked_sub(1)?;
         let entry = self.entries.get(left as usize).copied()?;
@@ -104,7 +104,7 @@ impl Entries {
     }
 
     pub(crate) fn head(&self) -> Option<Reached>
-        ensures { result ≡ head_of (entries_of self.now) }
+        ensures { result ≡ head_of self.now }
     {
         self.reach(self.count())
     }

@@ -1,7 +1,7 @@
 // SCAN: the first pass, the slots, the second pass, and giving back.
 ghost use Rattle.std.specs.Prelude.{◌≡◌, [], None};
 ghost use Rattle.work.specs.Plans.{plan_of, writes, sight_of, seen_by, noted_by};
-ghost use Rattle.work.specs.Steps.{turn_of, quiet, first_pass, scan_start, first_next, counted_first, counted_again, scan_end, keep_note, second_start, second_next, next_slot, counted_second, traced_of, claims_of, emptied_of, cleared_of, lower};
+ghost use Rattle.work.specs.Steps.{turn_of, quiet, first_pass, scan_start, first_next, counted_first, counted_again, scan_end, second_start, second_next, next_slot, counted_second, traced_of, claims_of, emptied_of, cleared_of, lower};
 
 use crate::known::Known;
 use crate::notes::Note;
@@ -24,20 +24,17 @@ impl Turn {
 fn first_pass(reached: Option<Reached>) -> Point
     ensures { result ≡ first_pass reached }
 {
-    match reached {
-        None => Point::AskSlot(Station { number: 0 }, Slot { index: 0 }),
-        Some(e) => Point::CountFirst(e),
-    }
+    reached.map_or(
+        Point::AskSlot(Station { number: 0 }, Slot { index: 0 }),
+        Point::CountFirst,
+    )
 }
 
 // SC19 of the entry that the walk came to.
 fn second_pass(reached: Option<Reached>) -> Point
     ensures { result ≡ second_start reached }
 {
-    match reached {
-        None => Point::End(Outcome::Done),
-        Some(e) => Point::CountSecond(e),
-    }
+    reached.map_or(Point::End(Outcome::Done), Point::CountSecond)
 }
 
 // SC21

@@ -58,7 +58,7 @@ pub enum AfterSwap {
     ClearLink(Reached, Position),
 }
 
-// Where a store goes on.
+// Where a store goes on. Kept an enum beside its two siblings: an `Option` would not say where.
 #[derive(Clone, Copy)]
 pub enum AfterStore {
     // STORE: it ends.
@@ -108,9 +108,10 @@ pub enum Point {
 pub const MOST_OWED: usize = 5;
 
 // The writes that are owed, in their order; none stands where there is none to make.
+// Kept an array and no `ArrayVec`: work is a copy type, and a write has no default.
 #[derive(Clone, Copy)]
 pub struct Owed {
-    pub(crate) writes: [Option<Write>; MOST_OWED],
+    pub writes: [Option<Write>; MOST_OWED],
 }
 
 #[derive(Clone, Copy)]

@@ -24,4 +24,5 @@ pub loop-node-preserved : goal.loop-node-preserved
 loop-node-preserved g c = (
   rw (c.push.ensures.items, c.in-Some.ensures.after, ← c.in-Some.ensures.value) (drained_more _ _ _ c.in-Some.node c.loop-node.invariant.0 (member g (goal.at.loop-node-preserved g c).In-Some)),
   c.take.ensures.size ∙ c.loop-node.invariant.1,
+  (let few = room g (goal.at.loop-node-preserved g c).In-Some in let more = c.push.ensures.len in omega arith),
 )
