@@ -49,6 +49,7 @@ pub(crate) fn claims(e: Reached, zero: bool) -> Work
 }
 
 // S1 of a link of a record that is given back.
+// An entry and its link stay two parameters, as the decisions have two fields: a struct would be taken apart and built again.
 fn store_none(e: Reached, x: Position) -> Point
     ensures { result ≡ Point.Save (Spot.Link e.entry.node x) None (AfterStore.GiveBack e x) }
 {
