@@ -55,7 +55,7 @@ pub fn encode(bytes: &LineBytes) -> LineText
     ensures line { text_line result ≡ written (line_bytes bytes.now) ++ 10 ∷ [] }
     ensures short { length (text_line result) ≤ 129 }
 {
-    // Digits by hand: `write!` of `{byte:02X}` takes 0.9 seconds in place of 0.03 for a million long lines, and no clause says that it succeeds where there is room.
+    // Kept digits by hand: `write!` takes 0.9 seconds in place of 0.03 for a million long lines and may fail; `char::from_digit` gives an option of a small letter.
     let mut signs = ArrayVec::new();
     for &byte in bytes.as_slice() {
         signs.push(capital(byte / 16));

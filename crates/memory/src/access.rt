@@ -77,7 +77,7 @@ pub enum Access {
 }
 
 // What an access finds.
-// `Nothing` stays a case: an `Option` round the others would be taken apart twice by each that reads a name, a mark or a number.
+// `Nothing` stays a case, so that reading a name, a mark or a number are methods of what was found: an `Option` has none of ours.
 #[derive(Clone, Copy)]
 pub enum Found {
     Nothing,

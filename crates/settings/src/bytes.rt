@@ -28,7 +28,7 @@ impl SetupByte {
         self as u8
     }
 
-    // What a good byte at its place is, in words.
+    // What a good byte at its place is, in words. A method beside `Display`, which writes just this: a caller may want the text itself.
     pub fn words(self) -> &'static str
         ensures { result.now ≡ words_of self }
     {

@@ -24,6 +24,7 @@ impl Sight {
 }
 
 // DELETE: the record becomes the head of the list, at an empty place.
+// What it sees and its notes stay two parameters: the notes are written before they are read as what is known.
 fn delete(r: Record, place: Place, sight: &Sight, notes: &mut Notes) -> Work
     ensures work { plan_of result ≡ (delete_of r place (sight_of sight.now) (notes_of notes.old)).does }
     ensures notes { notes_of notes.new ≡ noted (notes_of notes.old) (delete_of r place (sight_of sight.now) (notes_of notes.old)).note }

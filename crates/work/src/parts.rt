@@ -1,5 +1,5 @@
 // Small parts of a station's private work: names, numbers, and its notes.
-ghost use Rattle.std.specs.Prelude.{◌≡◌, ℕ, ◌+◌, ◌<◌, ◌≤◌, Bool, false, [], length, Some, None};
+ghost use Rattle.std.specs.Prelude.{◌≡◌, ℕ, Bool, false, [], length, None};
 ghost use Rattle.terms.specs.Words.{reads, lowest, is_none};
 ghost use Rattle.work.specs.Plans.{seen_of, pushed, saw, reached, head_of, free_slot, next_position, after_in_rows, sight_of, position};
 
