@@ -1,0 +1,4 @@
+pub mod Counts
+pub mod Phases
+pub mod Relation
+pub mod Theorems

@@ -1,0 +1,96 @@
+-- Where a station's operation is, by what the station is in the middle of: the act of each happens at one access.
+use Rattle.std.specs.Prelude.{◌≡◌, ℕ, [], ◌∷◌, Some, None, Option, ◌≢◌}
+use Rattle.terms.specs.declared.Record.{Record}
+use Rattle.terms.specs.declared.Slot.{Slot}
+use Rattle.terms.specs.declared.Spot.{Spot}
+use Rattle.terms.specs.declared.Outcome.{Outcome}
+use Rattle.terms.specs.declared.Standing.{Standing}
+use Rattle.terms.specs.declared.Standing.TheVariants.{Fresh}
+use Rattle.terms.specs.declared.Operation.{Operation}
+use Rattle.terms.specs.declared.Operation.TheVariants as op
+use Rattle.memory.specs.declared.access.Write.{Write}
+use Rattle.work.specs.declared.work.AfterLook.{AfterLook}
+use Rattle.work.specs.declared.work.AfterLook.TheVariants as look
+use Rattle.work.specs.declared.work.AfterSwap.{AfterSwap}
+use Rattle.work.specs.declared.work.AfterSwap.TheVariants as swap
+use Rattle.work.specs.declared.work.AfterStore.{AfterStore}
+use Rattle.work.specs.declared.work.AfterStore.TheVariants as store
+use Rattle.work.specs.declared.work.Point.{Point}
+use Rattle.work.specs.declared.work.Point.TheVariants.{End, Take, Look, LookAgain, Verify, Swap, Save, Overwrite, AskDeleted, AskPlace, AskDone, AskPlaceAgain, CountFirst, CountAgain, AskSlot, CountSecond, AskTrace, AskClaims, AskLink, Give}
+use Rattle.work.specs.Plans.{Plan, plan}
+use Rattle.ledger.specs.Explains.{Phase, resting, waiting, acted}
+use Rattle.order.specs.Counts.{own_holds}
+
+-- A dereference of q before the look that is verified.
+pub data Looks (q : Spot) : Plan → Type 0 where
+  first : Looks q (plan [] (Look q look.Answer))
+  again : (i : Slot) → Looks q (plan [] (LookAgain q i look.Answer))
+  writes : (i : Slot) (v : Option Record) → Looks q (plan (Write.FillSlot i v ∷ []) (Verify q i v look.Answer))
+  verifies : (i : Slot) (v : Option Record) → Looks q (plan [] (Verify q i v look.Answer))
+
+-- A store before its overwrite.
+pub data Stores (q : Spot) (n : Option Record) : Plan → Type 0 where
+  reads : Stores q n (plan [] (Save q n store.Answer))
+  overwrites : (o : Option Record) → Stores q n (plan [] (Overwrite q o n store.Answer))
+
+-- What a station is in the middle of before the act of its operation. DELETE acts when it begins.
+abbrev pub Waits : (ℕ → Standing) → Operation → Plan → Type 0
+Waits f op.New p = p ≡ plan [] Take
+Waits f (op.Deref q) p = Looks q p
+Waits f (op.Release r) p = (p ≡ plan (Write.Release r ∷ []) (End Outcome.Done)) × (f r.number ≢ Fresh)
+Waits f (op.Cas q o n) p = p ≡ plan [] (Swap q o n swap.Answer)
+Waits f (op.Store r x n) p = Stores (Spot.Link r x) n p
+Waits f (op.Delete r) p = ⊥
+
+-- Where an operation that acted may go on, and with what it ends: NEW, CAS and STORE only owe what is left, DELETE cleans and scans.
+abbrev pub AfterLooking : AfterLook → Type 0
+AfterLooking look.Answer = ⊥
+AfterLooking (look.CleanLink c) = Unit {0}
+AfterLooking (look.CleanNext c m) = Unit {0}
+
+abbrev pub AfterSwapping : AfterSwap → Type 0
+AfterSwapping swap.Answer = ⊥
+AfterSwapping (swap.CleanSwap c m t) = Unit {0}
+AfterSwapping (swap.ClearLink e x) = Unit {0}
+
+abbrev pub AfterStoring : AfterStore → Type 0
+AfterStoring store.Answer = ⊥
+AfterStoring (store.GiveBack e x) = Unit {0}
+
+abbrev pub Acted : Outcome → Point → Type 0
+Acted answer (End o) = o ≡ answer
+Acted answer Take = ⊥
+Acted answer (Look q g) = (answer ≡ Outcome.Done) × AfterLooking g
+Acted answer (LookAgain q i g) = (answer ≡ Outcome.Done) × AfterLooking g
+Acted answer (Verify q i v g) = (answer ≡ Outcome.Done) × AfterLooking g
+Acted answer (Swap q o v g) = (answer ≡ Outcome.Done) × AfterSwapping g
+Acted answer (Save q v g) = (answer ≡ Outcome.Done) × AfterStoring g
+Acted answer (Overwrite q o v g) = (answer ≡ Outcome.Done) × AfterStoring g
+Acted answer (AskDeleted c m) = answer ≡ Outcome.Done
+Acted answer (AskPlace q i) = answer ≡ Outcome.Done
+Acted answer (AskDone q i r) = answer ≡ Outcome.Done
+Acted answer (AskPlaceAgain q i r) = answer ≡ Outcome.Done
+Acted answer (CountFirst e) = answer ≡ Outcome.Done
+Acted answer (CountAgain e) = answer ≡ Outcome.Done
+Acted answer (AskSlot q i) = answer ≡ Outcome.Done
+Acted answer (CountSecond e) = answer ≡ Outcome.Done
+Acted answer (AskTrace e) = answer ≡ Outcome.Done
+Acted answer (AskClaims e) = answer ≡ Outcome.Done
+Acted answer (AskLink e x) = answer ≡ Outcome.Done
+Acted answer (Give e) = answer ≡ Outcome.Done
+
+-- The phase of a station's operation fits what the station is in the middle of.
+abbrev pub InPhase : (ℕ → Standing) → Option Plan → Phase → Type 0
+InPhase f None resting = Unit {0}
+InPhase f None (waiting o) = ⊥
+InPhase f None (acted answer) = ⊥
+InPhase f (Some p) resting = ⊥
+InPhase f (Some p) (waiting o) = Waits f o p
+InPhase f (Some p) (acted answer) = Acted answer p.point
+
+-- The holds that a station has beside those of the ledger: an operation that has yet to act has none.
+abbrev pub beside : Option Plan → Phase → Record → ℕ
+beside None ph r = 0
+beside (Some p) resting r = 0
+beside (Some p) (waiting o) r = 0
+beside (Some p) (acted answer) r = own_holds p r
