@@ -1,6 +1,6 @@
 -- A beginning leaves the table and the ledger side by side: DELETE acts at once, the other operations wait.
-use Rattle.std.proofs.Common.{◌≡◌, ℕ, zero, suc, ◌+◌, ◌<◌, Bool, true, false, cond, not, ◌&&◌, ltb, List, ◌∷◌, ◌++◌, Some, None, Option, sym, refl, ap, ◌∙◌, subst, inl, inr, arith}
-use Rattle.std.proofs.lemmas.Bool.{ltb-true, eq-eqb, true≢false}
+use Rattle.std.proofs.Common.{◌≡◌, ℕ, zero, suc, ◌<◌, Bool, true, false, cond, not, ◌&&◌, ltb, List, ◌∷◌, ◌++◌, Some, None, Option, sym, refl, ap, ◌∙◌, subst, arith}
+use Rattle.std.proofs.lemmas.Bool.{ltb-true, true≢false}
 use Rattle.terms.specs.declared.Record.{Record}
 use Rattle.terms.specs.declared.Station.{Station}
 use Rattle.terms.specs.declared.Standing.{Standing}
@@ -8,29 +8,23 @@ use Rattle.terms.specs.declared.Standing.TheVariants.{Fresh}
 use Rattle.terms.specs.declared.Operation.{Operation}
 use Rattle.terms.specs.declared.Operation.TheVariants as op
 use Rattle.terms.specs.Words.{same_name}
-use Rattle.terms.proofs.Puts.{put_tells}
 use Rattle.frames.specs.declared.refusal.Refusal.{Refusal}
 use Rattle.work.specs.Plans.{Plan, Notes}
-use Rattle.machine.specs.Tables.{Seat, Table}
+use Rattle.machine.specs.Tables.{Table}
 use Rattle.machine.specs.Steps.{seated}
 use Rattle.machine.specs.Holds.{is_verified}
 use Rattle.machine.specs.Begin as begin
 use Rattle.machine.specs.Begin.{Check, first_failing, begin_refusal, begun}
 use Rattle.laws.specs.Fits.{Sound}
 use Rattle.laws.proofs.Checks.{pass, passes}
-use Rattle.ledger.specs.Words.{same_station}
 use Rattle.ledger.specs.Ledger.{Ledger}
 use Rattle.ledger.specs.Explains.{Happening, begins, Phase, resting, waiting, acted, Run, Phases, moved, Explains}
 use Rattle.ledger.specs.Explains as explains
-use Rattle.ledger.proofs.Words.{same_station_is, station_same, tells}
 use Rattle.order.specs.Counts.{count, in_hand}
-use Rattle.order.specs.Phases.{InPhase, beside, first, reads}
+use Rattle.order.specs.Phases.{InPhase, first, reads}
 use Rattle.order.specs.Relation.{sizes, PastOf}
 use Rattle.order.specs.Theorems.{Explained}
-
--- What the relation says of one station's holds, by what it is in the middle of.
-abbrev pub HoldsBy : (slots : ℕ → Option Record) → (n : ℕ) → Option Plan → Phase → Record → Type 0
-HoldsBy slots n w x r = n + beside w x r ≡ count (λ i. same_name (slots i) (Some r) && is_verified w i) 8 + in_hand w r
+use Rattle.order.proofs.Frame.{HoldsBy, related_after}
 
 -- An idle station's operation rests.
 pub rests : (f : ℕ → Standing) (w : Option Plan) (x : Phase) → w ≡ None → InPhase f w x → x ≡ resting
@@ -38,24 +32,6 @@ rests f None resting e h = refl
 rests f None (waiting o) e h = absurd h
 rests f None (acted a) e h = absurd h
 rests f (Some p) x e h = absurd (grind arith)
-
--- The seat of each station after one is changed, with its phase: the station's own, or another's as it was.
-module _ (t : Table) (s : Station) (w : Option Plan) (n : Notes) (ph : Phases) (x : Phase) where
-  abbrev here : Seat
-  here = record { work = w; notes = n }
-
-  pub seat_tells : s.number < 8 → (P : Station → Seat → Phase → Type 0) → P s here x → ((q : Station) → (q ≡ s → ⊥) → P q (t.seats q.number) (ph q)) →
-      (q : Station) → P q (seated t.seats s.number w n q.number) (moved ph s x q)
-  seat_tells low P own other q = elim (tells same_station ph s x q same_station_is) [
-    | inl (is, e) ↦ elim (put_tells 8 t.seats s.number here q.number) [
-      | inl (v, _, _) ↦ subst (λ (y : Phase). P q (seated t.seats s.number w n q.number) y) (sym e) (subst (λ (y : Seat). P q y x) (sym v) (subst (λ (y : Station). P y here x) (sym is) own))
-      | inr (_, d) ↦ absurd (d (ap (λ (y : Station). y.number) (sym is)) low)
-    ]
-    | inr (is, e) ↦ elim (put_tells 8 t.seats s.number here q.number) [
-      | inl (_, y, _) ↦ absurd (true≢false (sym (eq-eqb q.number s.number (sym y)) ∙ is))
-      | inr (v, _) ↦ subst (λ (y : Phase). P q (seated t.seats s.number w n q.number) y) (sym e) (subst (λ (y : Seat). P q y (ph q)) (sym v) (other q (λ y. true≢false (sym (station_same s) ∙ ap (λ (i : Station). same_station i s) (sym y) ∙ is))))
-    ]
-  ]
 
 pub and_true : (b : Bool) → (b && true) ≡ b
 and_true true = refl
@@ -128,25 +104,19 @@ module _ (t : Table) (ok : Sound t) (run : Run) (e : Explained t run) (s : Stati
     ledger = l;
     phases = moved e.phases s (waiting o);
     explains = explains.call (begins s o) e.explains (rests t.standing (t.seats p).work (e.phases s) c.idle (e.related.phases s c.station), refl);
-    related = record {
+    related = related_after t run e s low t.shared t.standing l (Some w) (waiting o) n t.pool (record {
       names = e.related.names;
       standings = e.related.standings;
       since = e.related.since;
-      holds = λ q r b. each_holds r q b;
-      phases = each_phase;
-      past = each_past;
-    };
+      slots = λ q d i. refl;
+      holds = λ q r d. refl;
+      phases = λ q d b. e.related.phases q b;
+      past = λ q d b. e.related.past q b;
+      own_holds = busy_holds w c.idle c.station firm hand o;
+      own_phase = phase;
+      own_past = past;
+    });
   }
-    where
-      each_holds : (r : Record) (q : Station) → q.number < t.sizes.stations → HoldsBy (t.shared.slots q.number) (l.holds q r) (seated t.seats p (Some w) n q.number).work (moved e.phases s (waiting o) q) r
-      each_holds r = seat_tells t s (Some w) n e.phases (waiting o) low (λ q x y. q.number < t.sizes.stations → HoldsBy (t.shared.slots q.number) (l.holds q r) x.work y r)
-          (λ b. busy_holds w c.idle b firm hand o r) (λ q d b. e.related.holds q r b)
-
-      each_phase : (q : Station) → q.number < t.sizes.stations → InPhase t.standing (seated t.seats p (Some w) n q.number).work (moved e.phases s (waiting o) q)
-      each_phase = seat_tells t s (Some w) n e.phases (waiting o) low (λ q x y. q.number < t.sizes.stations → InPhase t.standing x.work y) (λ b. phase) (λ q d b. e.related.phases q b)
-
-      each_past : (q : Station) → q.number < t.sizes.stations → PastOf (sizes t.sizes) l (seated t.seats p (Some w) n q.number).work
-      each_past = seat_tells t s (Some w) n e.phases (waiting o) low (λ q x y. q.number < t.sizes.stations → PastOf (sizes t.sizes) l x.work) (λ b. past) (λ q d b. e.related.past q b)
 
   not_fresh : (x : Standing) → not (begin.is_fresh x) ≡ true → x ≡ Fresh → ⊥
   not_fresh x e h = grind arith

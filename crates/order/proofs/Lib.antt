@@ -1,3 +1,4 @@
+pub mod Frame
 pub mod Begins
 pub mod Starts
 pub mod Withdraws

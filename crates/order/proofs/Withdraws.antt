@@ -43,26 +43,27 @@ use Rattle.ledger.proofs.Extend.{begins_acting, moved_there}
 use Rattle.ledger.proofs.Words.{same_station_is, same_record_is, station_same, at_key, name_same, tells}
 use Rattle.ledger.proofs.Changes.{stand_tells}
 use Rattle.order.specs.Counts.{count, once, in_hand_at, filled_with, cleaning_holds}
-use Rattle.order.specs.Phases.{InPhase, Acted}
+use Rattle.order.specs.Phases.{InPhase, Acted, Calm}
 use Rattle.order.specs.Relation.{sizes, Past, PastOf, PastLook, PastSwap, Lasting}
 use Rattle.order.specs.Theorems.{Explained, BeginningsAreExplained}
-use Rattle.order.proofs.Begins.{idle_holds, begins_waiting, checked, HoldsBy, rests, seat_tells, and_true, count_same, Checked}
+use Rattle.order.proofs.Frame.{HoldsBy, seat_tells}
+use Rattle.order.proofs.Begins.{idle_holds, begins_waiting, checked, rests, and_true, count_same, Checked}
 
 -- What every beginning of a round is: no dereference into a slot is under way, and CLEAN has nothing for itself yet.
 pub record Round (z : Sizes) (l : Ledger) (x : Point) : Type 0 where
   pub closed : (i : ℕ) → looks_into x i ≡ false
   pub nothing : (r : Record) → cleaning_holds x r ≡ 0
   pub empty : (ws : List Write) (r : Record) → filled_with ws r ≡ 0 → in_hand_at ws x r ≡ 0
-  pub acted : Acted Outcome.Done x
+  pub acted : (ws : List Write) → Calm ws → Acted Outcome.Done ws x
   pub past : Past z l x
 
 pub round_is : (z : Sizes) (l : Ledger) (s : Sight) (n : Notes) (h : Option Reached) → Round z l (round_at s n h)
-round_is z l s n None = record { closed = λ i. refl; nothing = λ r. refl; empty = λ ws r e. e; acted = refl; past = tt }
+round_is z l s n None = record { closed = λ i. refl; nothing = λ r. refl; empty = λ ws r e. e; acted = λ ws k. (refl, inl k); past = tt }
 round_is z l s n (Some e) = cond_both (length n.list == s.t1) (clean_at e.entry.node 0 (Own e.left)) (cond (nat_le s.t2 (length n.list)) (CountFirst e) (End Outcome.Done)) (λ (x : Point). Round z l x)
-    (λ _. record { closed = λ i. refl; nothing = λ r. refl; empty = λ ws r e. refl; acted = (refl, tt); past = tt })
+    (λ _. record { closed = λ i. refl; nothing = λ r. refl; empty = λ ws r e. refl; acted = λ ws k. (refl, tt, k); past = tt })
     (λ _. cond_both (nat_le s.t2 (length n.list)) (CountFirst e) (End Outcome.Done) (λ (x : Point). Round z l x)
-    (λ _. record { closed = λ i. refl; nothing = λ r. refl; empty = λ ws r e. refl; acted = refl; past = tt })
-    (λ _. record { closed = λ i. refl; nothing = λ r. refl; empty = λ ws r e. e; acted = refl; past = tt }))
+    (λ _. record { closed = λ i. refl; nothing = λ r. refl; empty = λ ws r e. refl; acted = λ ws k. (refl, k); past = tt })
+    (λ _. record { closed = λ i. refl; nothing = λ r. refl; empty = λ ws r e. e; acted = λ ws k. (refl, inl k); past = tt }))
 
 -- A slot that names r is counted.
 pub counted_at : (f : ℕ → Bool) (n i : ℕ) → i < n → f i ≡ true → 0 < count f n
@@ -242,7 +243,7 @@ module _ (t : Table) (ok : Sound t) (run : Run) (e : Explained t run) (s : Stati
       since = noted;
       holds = λ q k b. each_holds k q b;
       phases = seat_tells t s (Some (plan (owed i) x)) n waiting_phases (acted Outcome.Done) low (λ q y z. q.number < t.sizes.stations → InPhase (set_standing t.standing r.number Retired) y.work z)
-          (λ b. round.acted)
+          (λ b. round.acted (owed i) (λ j. refl))
           (λ q d b. subst (λ (y : Phase). InPhase (set_standing t.standing r.number Retired) (t.seats q.number).work y) (phase_there q d) (still_in_phase t.standing (set_standing t.standing r.number Retired) was_fresh (t.seats q.number).work (e.phases q) (e.related.phases q b)));
       past = seat_tells t s (Some (plan (owed i) x)) n waiting_phases (acted Outcome.Done) low (λ q y z. q.number < t.sizes.stations → PastOf (sizes t.sizes) after y.work)
           (λ b. round.past) (λ q d b. lasts_of (sizes t.sizes) l after lasts (t.seats q.number).work (e.related.past q b));

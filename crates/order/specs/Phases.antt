@@ -1,5 +1,5 @@
 -- Where a station's operation is, by what the station is in the middle of: the act of each happens at one access.
-use Rattle.std.specs.Prelude.{◌≡◌, ℕ, [], ◌∷◌, Some, None, Option, ◌≢◌}
+use Rattle.std.specs.Prelude.{◌≡◌, ℕ, false, ◌⊎◌, List, [], ◌∷◌, Some, None, Option, ◌≢◌}
 use Rattle.terms.specs.declared.Record.{Record}
 use Rattle.terms.specs.declared.Slot.{Slot}
 use Rattle.terms.specs.declared.Spot.{Spot}
@@ -18,6 +18,7 @@ use Rattle.work.specs.declared.work.AfterStore.TheVariants as store
 use Rattle.work.specs.declared.work.Point.{Point}
 use Rattle.work.specs.declared.work.Point.TheVariants.{End, Take, Look, LookAgain, Verify, Swap, Save, Overwrite, AskDeleted, AskPlace, AskDone, AskPlaceAgain, CountFirst, CountAgain, AskSlot, CountSecond, AskTrace, AskClaims, AskLink, Give}
 use Rattle.work.specs.Plans.{Plan, plan}
+use Rattle.machine.specs.Holds.{owes_fill}
 use Rattle.ledger.specs.Explains.{Phase, resting, waiting, acted}
 use Rattle.order.specs.Counts.{own_holds}
 
@@ -57,27 +58,38 @@ abbrev pub AfterStoring : AfterStore → Type 0
 AfterStoring store.Answer = ⊥
 AfterStoring (store.GiveBack e x) = Unit {0}
 
-abbrev pub Acted : Outcome → Point → Type 0
-Acted answer (End o) = o ≡ answer
-Acted answer Take = ⊥
-Acted answer (Look q g) = (answer ≡ Outcome.Done) × AfterLooking g
-Acted answer (LookAgain q i g) = (answer ≡ Outcome.Done) × AfterLooking g
-Acted answer (Verify q i v g) = (answer ≡ Outcome.Done) × AfterLooking g
-Acted answer (Swap q o v g) = (answer ≡ Outcome.Done) × AfterSwapping g
-Acted answer (Save q v g) = (answer ≡ Outcome.Done) × AfterStoring g
-Acted answer (Overwrite q o v g) = (answer ≡ Outcome.Done) × AfterStoring g
-Acted answer (AskDeleted c m) = answer ≡ Outcome.Done
-Acted answer (AskPlace q i) = answer ≡ Outcome.Done
-Acted answer (AskDone q i r) = answer ≡ Outcome.Done
-Acted answer (AskPlaceAgain q i r) = answer ≡ Outcome.Done
-Acted answer (CountFirst e) = answer ≡ Outcome.Done
-Acted answer (CountAgain e) = answer ≡ Outcome.Done
-Acted answer (AskSlot q i) = answer ≡ Outcome.Done
-Acted answer (CountSecond e) = answer ≡ Outcome.Done
-Acted answer (AskTrace e) = answer ≡ Outcome.Done
-Acted answer (AskClaims e) = answer ≡ Outcome.Done
-Acted answer (AskLink e x) = answer ≡ Outcome.Done
-Acted answer (Give e) = answer ≡ Outcome.Done
+-- No write of a slot is owed.
+abbrev pub Calm : List Write → Type 0
+Calm ws = (i : ℕ) → owes_fill ws i ≡ false
+
+-- NEW's writes that are still owed, its slot's the last of them.
+pub data Filling : List Write → Type 0 where
+  all : (r : Record) (i : Slot) → Filling (Write.ZeroCount r ∷ Write.ClearDeleted r ∷ Write.FillSlot i (Some r) ∷ [])
+  two : (r : Record) (i : Slot) → Filling (Write.ClearDeleted r ∷ Write.FillSlot i (Some r) ∷ [])
+  one : (r : Record) (i : Slot) → Filling (Write.FillSlot i (Some r) ∷ [])
+
+-- What an operation that acted owes before its decision: a slot is written right before it is verified, or at the end of NEW.
+abbrev pub Acted : Outcome → List Write → Point → Type 0
+Acted answer ws (End o) = (o ≡ answer) × (Calm ws ⊎ Filling ws)
+Acted answer ws Take = ⊥
+Acted answer ws (Look q g) = (answer ≡ Outcome.Done) × AfterLooking g × Calm ws
+Acted answer ws (LookAgain q i g) = (answer ≡ Outcome.Done) × AfterLooking g × (ws ≡ [])
+Acted answer ws (Verify q i v g) = (answer ≡ Outcome.Done) × AfterLooking g × ((ws ≡ []) ⊎ (ws ≡ Write.FillSlot i v ∷ []))
+Acted answer ws (Swap q o v g) = (answer ≡ Outcome.Done) × AfterSwapping g × Calm ws
+Acted answer ws (Save q v g) = (answer ≡ Outcome.Done) × AfterStoring g × Calm ws
+Acted answer ws (Overwrite q o v g) = (answer ≡ Outcome.Done) × AfterStoring g × Calm ws
+Acted answer ws (AskDeleted c m) = (answer ≡ Outcome.Done) × Calm ws
+Acted answer ws (AskPlace q i) = (answer ≡ Outcome.Done) × Calm ws
+Acted answer ws (AskDone q i r) = (answer ≡ Outcome.Done) × Calm ws
+Acted answer ws (AskPlaceAgain q i r) = (answer ≡ Outcome.Done) × Calm ws
+Acted answer ws (CountFirst e) = (answer ≡ Outcome.Done) × Calm ws
+Acted answer ws (CountAgain e) = (answer ≡ Outcome.Done) × Calm ws
+Acted answer ws (AskSlot q i) = (answer ≡ Outcome.Done) × Calm ws
+Acted answer ws (CountSecond e) = (answer ≡ Outcome.Done) × Calm ws
+Acted answer ws (AskTrace e) = (answer ≡ Outcome.Done) × Calm ws
+Acted answer ws (AskClaims e) = (answer ≡ Outcome.Done) × Calm ws
+Acted answer ws (AskLink e x) = (answer ≡ Outcome.Done) × Calm ws
+Acted answer ws (Give e) = (answer ≡ Outcome.Done) × Calm ws
 
 -- The phase of a station's operation fits what the station is in the middle of.
 abbrev pub InPhase : (ℕ → Standing) → Option Plan → Phase → Type 0
@@ -86,7 +98,7 @@ InPhase f None (waiting o) = ⊥
 InPhase f None (acted answer) = ⊥
 InPhase f (Some p) resting = ⊥
 InPhase f (Some p) (waiting o) = Waits f o p
-InPhase f (Some p) (acted answer) = Acted answer p.point
+InPhase f (Some p) (acted answer) = Acted answer p.owed p.point
 
 -- The holds that a station has beside those of the ledger: an operation that has yet to act has none.
 abbrev pub beside : Option Plan → Phase → Record → ℕ
