@@ -1,6 +1,6 @@
 -- SCAN, second pass: links cleared, and records given back.
 use Rattle.std.proofs.Common.{◌≡◌, ℕ, suc, ◌+◌, ◌%◌, ◌<◌, true, false, ltb, List, [], ◌∷◌, ◌++◌, Some, None, Option, sym, refl, ap, ◌∙◌, subst, inl, inr, arith}
-use Rattle.std.proofs.lemmas.Bool.{cases_eq, cond_both, ltb-true}
+use Rattle.std.proofs.lemmas.Bool.{cases_eq, cond_both, ltb-true, ltb-false}
 use Rattle.terms.specs.declared.Record.{Record}
 use Rattle.terms.specs.declared.Position.{Position}
 use Rattle.terms.specs.declared.Spot.{Spot}
@@ -151,12 +151,14 @@ module _ (z : Sizes) (y : Lawful z) (p : ℕ) (pS : p < z.stations) (pN : p < 8)
         after = subst (λ (i : Mine). Owes z.each (AtPoint z n (Save (Spot.Link e.entry.node (position (x.index + 1))) None (store.GiveBack e (position (x.index + 1))))) i (lower o)) (sym me)
             (counts_ended m1 None o (owes.paid (record { ups = refl; clears = refl; downs = refl; stores = refl; hands = k.hands }, firm, (w, d, more, refl, refl, upd_here m.low j (suc x.index) ∙ omega arith, claim, rooms))));
       })
-      (λ _. record {
+      (λ h. let least = ltb-false (x.index + 1) z.positions h in
+      let now = upd_here m.low j (suc x.index) in
+      record {
         to = after_clear_link a p (spot_number q) (num o) (place_number p j) x.index;
         moves = one_move shape a p _ st;
         agrees = again ag;
         after = subst (λ (i : Mine). Owes z.each (AtPoint z n (Give e)) i (lower o)) (sym me)
-            (counts_ended m1 None o (owes.paid (record { ups = refl; clears = refl; downs = refl; stores = refl; hands = k.hands }, firm, (claim, rooms), w, d)));
+            (counts_ended m1 None o (owes.paid (record { ups = refl; clears = refl; downs = refl; stores = refl; hands = k.hands }, firm, (claim, rooms), w, d, omega (arith, least, now))));
       }))
     where
       again : Agrees z (set_name s q None) (named f None) (after_write a p (spot_number q) (num o) None) → Agrees z (set_name s q None) (named f None) (after_clear_link a p (spot_number q) (num o) (place_number p e.entry.place.index) x.index)
@@ -164,7 +166,7 @@ module _ (z : Sizes) (y : Lawful z) (p : ℕ) (pS : p < z.stations) (pN : p < 8)
 
   -- SC23.
   pub give_turn : (e : Reached) → AtPoint z n (Give e) (mine a p) → Decided z p s (set_standing f e.entry.node.number Pooled) a n (second_next [] e None (sight_in z s p) n)
-  give_turn e (k, firm, c, w, d) =
+  give_turn e (k, firm, c, w, d, _) =
       let j : ℕ = e.entry.place.index in
       let r : ℕ = e.entry.node.number in
       let m : Mine = mine a p in

@@ -137,8 +137,8 @@ module _ (z : Sizes) (y : Lawful z) (p : ℕ) (pS : p < z.stations) (pN : p < 8)
   decide_touch (AskTrace e) (k, firm, c, w, d) r t = word (Some e.entry.node) r t (λ v. same e.entry.node r v (entry e (e.left + 1) n.kept w (omega arith) d.filed))
   decide_touch (AskClaims e) k r t = word None r t (λ h. absurd (no_record r h))
   decide_touch (AskLink e x) (k, firm, c, w, d, l) r t = word (Some e.entry.node) r t (λ v. same e.entry.node r v (entry e (e.left + 1) n.kept w (omega arith) d.filed))
-  decide_touch (Give e) (k, firm, c, w, d) r (inl t) = absurd (no_record r t)
-  decide_touch (Give e) (k, firm, c, w, d) r (inr t) = same e.entry.node r t (entry e (e.left + 1) n.kept w (omega arith) d.filed)
+  decide_touch (Give e) (k, firm, c, w, d, _) r (inl t) = absurd (no_record r t)
+  decide_touch (Give e) (k, firm, c, w, d, _) r (inr t) = same e.entry.node r t (entry e (e.left + 1) n.kept w (omega arith) d.filed)
 
   plan_touch : (ws : List Write) (x : Point) → Owes z.each (AtPoint z n x) (mine a p) ws → (r : Record) → Touches (next_access ws x) r → MayTouch shape a p r.number
   plan_touch [] x (owes.paid k) r t = decide_touch x k r t

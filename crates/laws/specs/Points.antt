@@ -1,5 +1,5 @@
 -- What a station has of its own at each decision, once it owes nothing.
-use Rattle.std.specs.Prelude.{◌≡◌, ℕ, ◌+◌, ◌<◌, true, [], length, Some, None, Option, ◌≢◌}
+use Rattle.std.specs.Prelude.{◌≡◌, ℕ, ◌+◌, ◌<◌, ◌≤◌, true, [], length, Some, None, Option, ◌≢◌}
 use Rattle.terms.specs.declared.Record.{Record}
 use Rattle.terms.specs.declared.Station.{Station}
 use Rattle.terms.specs.declared.Place.{Place}
@@ -177,4 +177,4 @@ AtPoint z n (CountSecond e) m = Quiet m × Firm m.slot m.held × Scanning z m ×
 AtPoint z n (AskTrace e) m = Quiet m × Firm m.slot m.held × Scanning z m × Stands n e × Second z.t1 n m (e.left + 1)
 AtPoint z n (AskClaims e) m = Quiet m × Firm m.slot m.held × Scanning z m × Stands n e × Through z.t1 n m e emptied
 AtPoint z n (AskLink e x) m = Quiet m × Firm m.slot m.held × Scanning z m × Stands n e × Through z.t1 n m e emptied × (x.index < z.positions)
-AtPoint z n (Give e) m = Quiet m × Firm m.slot m.held × Scanning z m × Stands n e × Through z.t1 n m e giving
+AtPoint z n (Give e) m = Quiet m × Firm m.slot m.held × Scanning z m × Stands n e × Through z.t1 n m e giving × (z.positions ≤ m.low e.entry.place.index)

@@ -3,6 +3,8 @@ use Rattle.std.proofs.Common.{◌≡◌, ℕ, zero, suc, ◌<◌, Bool, true, fa
 use Rattle.std.proofs.lemmas.Bool.{ltb-true, true≢false}
 use Rattle.terms.specs.declared.Record.{Record}
 use Rattle.terms.specs.declared.Station.{Station}
+use Rattle.terms.specs.declared.Spot.{Spot}
+use Rattle.terms.specs.declared.Spot.TheVariants as at
 use Rattle.terms.specs.declared.Standing.{Standing}
 use Rattle.terms.specs.declared.Standing.TheVariants.{Fresh}
 use Rattle.terms.specs.declared.Operation.{Operation}
@@ -17,21 +19,21 @@ use Rattle.machine.specs.Begin as begin
 use Rattle.machine.specs.Begin.{Check, first_failing, begin_refusal, begun}
 use Rattle.laws.specs.Fits.{Sound}
 use Rattle.laws.proofs.Checks.{pass, passes}
-use Rattle.ledger.specs.Ledger.{Ledger}
+use Rattle.ledger.specs.Ledger.{Sizes, Ledger}
 use Rattle.ledger.specs.Explains.{Happening, begins, Phase, resting, waiting, acted, Run, Phases, moved, Explains}
 use Rattle.ledger.specs.Explains as explains
 use Rattle.order.specs.Counts.{count, in_hand}
-use Rattle.order.specs.Phases.{InPhase, first, reads}
+use Rattle.order.specs.Phases.{Ranged, InPhase, first, reads}
 use Rattle.order.specs.Relation.{sizes, PastOf}
 use Rattle.order.specs.Theorems.{Explained}
 use Rattle.order.proofs.Frame.{HoldsBy, related_after}
 
 -- An idle station's operation rests.
-pub rests : (f : ℕ → Standing) (w : Option Plan) (x : Phase) → w ≡ None → InPhase f w x → x ≡ resting
-rests f None resting e h = refl
-rests f None (waiting o) e h = absurd h
-rests f None (acted a) e h = absurd h
-rests f (Some p) x e h = absurd (grind arith)
+pub rests : (z : Sizes) (f : ℕ → Standing) (w : Option Plan) (x : Phase) → w ≡ None → InPhase z f w x → x ≡ resting
+rests z f None resting e h = refl
+rests z f None (waiting o) e h = absurd h
+rests z f None (acted a) e h = absurd h
+rests z f (Some p) x e h = absurd (grind arith)
 
 pub and_true : (b : Bool) → (b && true) ≡ b
 and_true true = refl
@@ -98,16 +100,15 @@ module _ (t : Table) (ok : Sound t) (run : Run) (e : Explained t run) (s : Stati
       omega (arith, h, c, z)
 
   -- It waits, and the ledger stays.
-  waits : (o : Operation) (w : Plan) (n : Notes) → Checked t p o → p < 8 → InPhase t.standing (Some w) (waiting o) → ((i : ℕ) → is_verified (Some w) i ≡ true) → ((r : Record) → in_hand (Some w) r ≡ 0) →
+  waits : (o : Operation) (w : Plan) (n : Notes) → Checked t p o → p < 8 → InPhase (sizes t.sizes) t.standing (Some w) (waiting o) → ((i : ℕ) → is_verified (Some w) i ≡ true) → ((r : Record) → in_hand (Some w) r ≡ 0) →
       PastOf (sizes t.sizes) l (Some w) → Explained (record { sizes = t.sizes; shared = t.shared; standing = t.standing; seats = seated t.seats p (Some w) n; pool = t.pool }) (begins s o ∷ run)
   waits o w n c low phase firm hand past = record {
     ledger = l;
     phases = moved e.phases s (waiting o);
-    explains = explains.call (begins s o) e.explains (rests t.standing (t.seats p).work (e.phases s) c.idle (e.related.phases s c.station), refl);
+    explains = explains.call (begins s o) e.explains (rests (sizes t.sizes) t.standing (t.seats p).work (e.phases s) c.idle (e.related.phases s c.station), refl);
     related = related_after t run e s low t.shared t.standing l (Some w) (waiting o) n t.pool (record {
       names = e.related.names;
       standings = e.related.standings;
-      since = e.related.since;
       slots = λ q d i. refl;
       holds = λ q r d. refl;
       phases = λ q d b. e.related.phases q b;
@@ -118,13 +119,22 @@ module _ (t : Table) (ok : Sound t) (run : Run) (e : Explained t run) (s : Stati
     });
   }
 
+  -- a spot that passes its checks
+  ranged : (q : Spot) (rest : List Check) → first_failing (begin.spot_ranges t.sizes q ++ rest) ≡ None → Ranged (sizes t.sizes) q
+  ranged (at.Root g) rest h = ltb-true g.index t.sizes.roots (pass _ _ _ (passes (begin.spot_ranges t.sizes (at.Root g)) rest h).0).0
+  ranged (at.Link r x) rest h = ltb-true x.index t.sizes.positions (pass _ _ _ (pass _ _ _ (passes (begin.spot_ranges t.sizes (at.Link r x)) rest h).0).1).0
+
+  only : (q : Spot) → first_failing (begin.spot_ranges t.sizes q) ≡ None → Ranged (sizes t.sizes) q
+  only (at.Root g) h = ltb-true g.index t.sizes.roots (pass _ _ _ h).0
+  only (at.Link r x) h = ltb-true x.index t.sizes.positions (pass _ _ _ (pass _ _ _ h).1).0
+
   not_fresh : (x : Standing) → not (begin.is_fresh x) ≡ true → x ≡ Fresh → ⊥
   not_fresh x e h = grind arith
 
   pub begins_waiting : (o : Operation) → Checked t p o → p < 8 → ((r : Record) → o ≡ op.Delete r → ⊥) → Explained (begun t p o) (begins s o ∷ run)
   begins_waiting op.New c low d = waits op.New _ _ c low refl (λ i. refl) (λ r. refl) tt
-  begins_waiting (op.Deref q) c low d = waits (op.Deref q) _ _ c low first (λ i. refl) (λ r. refl) tt
+  begins_waiting (op.Deref q) c low d = waits (op.Deref q) _ _ c low (first, only q c.ranges) (λ i. refl) (λ r. refl) tt
   begins_waiting (op.Release r) c low d = waits (op.Release r) _ _ c low (refl, not_fresh (t.standing r.number) (pass _ _ _ c.fits).0) (λ i. refl) (λ r. refl) tt
-  begins_waiting (op.Cas q old new) c low d = waits (op.Cas q old new) _ _ c low refl (λ i. refl) (λ r. refl) tt
-  begins_waiting (op.Store r x new) c low d = waits (op.Store r x new) _ _ c low reads (λ i. refl) (λ r. refl) tt
+  begins_waiting (op.Cas q old new) c low d = waits (op.Cas q old new) _ _ c low (refl, ranged q (begin.name_ranges t.sizes old 4) (passes (begin.spot_ranges t.sizes q ++ begin.name_ranges t.sizes old 4) (begin.name_ranges t.sizes new 5) c.ranges).0) (λ i. refl) (λ r. refl) tt
+  begins_waiting (op.Store r x new) c low d = waits (op.Store r x new) _ _ c low (reads, ranged (at.Link r x) (begin.name_ranges t.sizes new 4) c.ranges) (λ i. refl) (λ r. refl) tt
   begins_waiting (op.Delete r) c low d = absurd (d r refl)

@@ -15,7 +15,6 @@ pub new_related : NewIsRelated
 new_related z = record {
   names = blank_names;
   standings = λ r. refl;
-  since = λ r x e. absurd (grind arith);
   holds = λ s r b. let none = count_none (λ i. false) 8 (λ i. refl) in omega (arith, none);
   phases = λ s b. tt;
   past = λ s b. tt;

@@ -47,23 +47,8 @@ use Rattle.order.specs.Phases.{InPhase, Acted, Calm}
 use Rattle.order.specs.Relation.{sizes, Past, PastOf, PastLook, PastSwap, Lasting}
 use Rattle.order.specs.Theorems.{Explained, BeginningsAreExplained}
 use Rattle.order.proofs.Frame.{HoldsBy, seat_tells}
+use Rattle.order.proofs.Onward.{Round, round_is}
 use Rattle.order.proofs.Begins.{idle_holds, begins_waiting, checked, rests, and_true, count_same, Checked}
-
--- What every beginning of a round is: no dereference into a slot is under way, and CLEAN has nothing for itself yet.
-pub record Round (z : Sizes) (l : Ledger) (x : Point) : Type 0 where
-  pub closed : (i : ℕ) → looks_into x i ≡ false
-  pub nothing : (r : Record) → cleaning_holds x r ≡ 0
-  pub empty : (ws : List Write) (r : Record) → filled_with ws r ≡ 0 → in_hand_at ws x r ≡ 0
-  pub acted : (ws : List Write) → Calm ws → Acted Outcome.Done ws x
-  pub past : Past z l x
-
-pub round_is : (z : Sizes) (l : Ledger) (s : Sight) (n : Notes) (h : Option Reached) → Round z l (round_at s n h)
-round_is z l s n None = record { closed = λ i. refl; nothing = λ r. refl; empty = λ ws r e. e; acted = λ ws k. (refl, inl k); past = tt }
-round_is z l s n (Some e) = cond_both (length n.list == s.t1) (clean_at e.entry.node 0 (Own e.left)) (cond (nat_le s.t2 (length n.list)) (CountFirst e) (End Outcome.Done)) (λ (x : Point). Round z l x)
-    (λ _. record { closed = λ i. refl; nothing = λ r. refl; empty = λ ws r e. refl; acted = λ ws k. (refl, tt, k); past = tt })
-    (λ _. cond_both (nat_le s.t2 (length n.list)) (CountFirst e) (End Outcome.Done) (λ (x : Point). Round z l x)
-    (λ _. record { closed = λ i. refl; nothing = λ r. refl; empty = λ ws r e. refl; acted = λ ws k. (refl, k); past = tt })
-    (λ _. record { closed = λ i. refl; nothing = λ r. refl; empty = λ ws r e. e; acted = λ ws k. (refl, inl k); past = tt }))
 
 -- A slot that names r is counted.
 pub counted_at : (f : ℕ → Bool) (n i : ℕ) → i < n → f i ≡ true → 0 < count f n
@@ -82,18 +67,18 @@ pub differs : (q s : Station) → (q ≡ s → ⊥) → same_station q s ≡ fal
 differs q s d = elim (cases_Bool (same_station q s)) [ inl x ↦ absurd (d (same_station_is q s x)) | inr x ↦ x ]
 
 -- What a phase asks of standings is only that a record to be released is not fresh.
-pub still_in_phase : (f g : ℕ → Standing) → ((k : ℕ) → g k ≡ Fresh → f k ≡ Fresh) → (p : Option Plan) (x : Phase) → InPhase f p x → InPhase g p x
-still_in_phase f g h None resting d = d
-still_in_phase f g h None (waiting o) d = absurd d
-still_in_phase f g h None (acted a) d = absurd d
-still_in_phase f g h (Some p) resting d = absurd d
-still_in_phase f g h (Some p) (acted a) d = d
-still_in_phase f g h (Some p) (waiting op.New) d = d
-still_in_phase f g h (Some p) (waiting (op.Deref q)) d = d
-still_in_phase f g h (Some p) (waiting (op.Release r)) (d, e) = (d, λ k. e (h r.number k))
-still_in_phase f g h (Some p) (waiting (op.Cas q o n)) d = d
-still_in_phase f g h (Some p) (waiting (op.Store r x n)) d = d
-still_in_phase f g h (Some p) (waiting (op.Delete r)) d = absurd d
+pub still_in_phase : (z : Sizes) (f g : ℕ → Standing) → ((k : ℕ) → g k ≡ Fresh → f k ≡ Fresh) → (p : Option Plan) (x : Phase) → InPhase z f p x → InPhase z g p x
+still_in_phase z f g h None resting d = d
+still_in_phase z f g h None (waiting o) d = absurd d
+still_in_phase z f g h None (acted a) d = absurd d
+still_in_phase z f g h (Some p) resting d = absurd d
+still_in_phase z f g h (Some p) (acted a) d = d
+still_in_phase z f g h (Some p) (waiting op.New) d = d
+still_in_phase z f g h (Some p) (waiting (op.Deref q)) d = d
+still_in_phase z f g h (Some p) (waiting (op.Release r)) (d, e) = (d, λ k. e (h r.number k))
+still_in_phase z f g h (Some p) (waiting (op.Cas q o n)) d = d
+still_in_phase z f g h (Some p) (waiting (op.Store r x n)) d = d
+still_in_phase z f g h (Some p) (waiting (op.Delete r)) d = absurd d
 
 -- What a CLEAN found is still so where withdrawn records stay so, with what their links have named, and lasting ones last.
 pub record Lasts (l m : Ledger) : Type 0 where
@@ -236,30 +221,19 @@ module _ (t : Table) (ok : Sound t) (run : Run) (e : Explained t run) (s : Stati
   withdraws i n x round = record {
     ledger = after;
     phases = moved waiting_phases s (acted Outcome.Done);
-    explains = begins_acting s (op.Delete r) Outcome.Done e.explains (rests t.standing (t.seats s.number).work (e.phases s) c.idle (e.related.phases s c.station)) allowed;
+    explains = begins_acting s (op.Delete r) Outcome.Done e.explains (rests (sizes t.sizes) t.standing (t.seats s.number).work (e.phases s) c.idle (e.related.phases s c.station)) allowed;
     related = record {
       names = e.related.names;
       standings = other_standing;
-      since = noted;
       holds = λ q k b. each_holds k q b;
-      phases = seat_tells t s (Some (plan (owed i) x)) n waiting_phases (acted Outcome.Done) low (λ q y z. q.number < t.sizes.stations → InPhase (set_standing t.standing r.number Retired) y.work z)
+      phases = seat_tells t s (Some (plan (owed i) x)) n waiting_phases (acted Outcome.Done) low (λ q y z. q.number < t.sizes.stations → InPhase (sizes t.sizes) (set_standing t.standing r.number Retired) y.work z)
           (λ b. round.acted (owed i) (λ j. refl))
-          (λ q d b. subst (λ (y : Phase). InPhase (set_standing t.standing r.number Retired) (t.seats q.number).work y) (phase_there q d) (still_in_phase t.standing (set_standing t.standing r.number Retired) was_fresh (t.seats q.number).work (e.phases q) (e.related.phases q b)));
+          (λ q d b. subst (λ (y : Phase). InPhase (sizes t.sizes) (set_standing t.standing r.number Retired) (t.seats q.number).work y) (phase_there q d) (still_in_phase (sizes t.sizes) t.standing (set_standing t.standing r.number Retired) was_fresh (t.seats q.number).work (e.phases q) (e.related.phases q b)));
       past = seat_tells t s (Some (plan (owed i) x)) n waiting_phases (acted Outcome.Done) low (λ q y z. q.number < t.sizes.stations → PastOf (sizes t.sizes) after y.work)
           (λ b. round.past) (λ q d b. lasts_of (sizes t.sizes) l after lasts (t.seats q.number).work (e.related.past q b));
     };
   }
     where
-      noted : (q : Record) (y : Position) → after.standing q ≡ Retired → after.since q y (after.names (Spot.Link q y)) ≡ true
-      noted q y h = elim (tells same_record l.since r (λ x n. same_name n (l.names (Spot.Link r x))) q same_record_is) [
-        | inl (is, f) ↦
-            ap (λ (g : Position → Option Record → Bool). g y (l.names (Spot.Link q y))) f ∙
-            ap (λ (o : Record). same_name (l.names (Spot.Link q y)) (l.names (Spot.Link o y))) (sym is) ∙ name_same (l.names (Spot.Link q y))
-        | inr (is, f) ↦
-            ap (λ (g : Position → Option Record → Bool). g y (l.names (Spot.Link q y))) f ∙
-            e.related.since q y (sym (ap (λ (b : Bool). cond b Retired (l.standing q)) is) ∙ h)
-      ]
-
       each_holds : (k : Record) (q : Station) → q.number < t.sizes.stations →
           HoldsBy (t.shared.slots q.number) (after.holds q k) (seated t.seats s.number (Some (plan (owed i) x)) n q.number).work (moved waiting_phases s (acted Outcome.Done) q) k
       each_holds k = seat_tells t s (Some (plan (owed i) x)) n waiting_phases (acted Outcome.Done) low (λ q y z. q.number < t.sizes.stations → HoldsBy (t.shared.slots q.number) (after.holds q k) y.work z k)

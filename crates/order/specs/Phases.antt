@@ -1,8 +1,9 @@
 -- Where a station's operation is, by what the station is in the middle of: the act of each happens at one access.
-use Rattle.std.specs.Prelude.{◌≡◌, ℕ, false, ◌⊎◌, List, [], ◌∷◌, Some, None, Option, ◌≢◌}
+use Rattle.std.specs.Prelude.{◌≡◌, ℕ, ◌<◌, false, ◌⊎◌, List, [], ◌∷◌, Some, None, Option, ◌≢◌}
 use Rattle.terms.specs.declared.Record.{Record}
 use Rattle.terms.specs.declared.Slot.{Slot}
 use Rattle.terms.specs.declared.Spot.{Spot}
+use Rattle.terms.specs.declared.Spot.TheVariants.{Root, Link}
 use Rattle.terms.specs.declared.Outcome.{Outcome}
 use Rattle.terms.specs.declared.Standing.{Standing}
 use Rattle.terms.specs.declared.Standing.TheVariants.{Fresh}
@@ -19,6 +20,7 @@ use Rattle.work.specs.declared.work.Point.{Point}
 use Rattle.work.specs.declared.work.Point.TheVariants.{End, Take, Look, LookAgain, Verify, Swap, Save, Overwrite, AskDeleted, AskPlace, AskDone, AskPlaceAgain, CountFirst, CountAgain, AskSlot, CountSecond, AskTrace, AskClaims, AskLink, Give}
 use Rattle.work.specs.Plans.{Plan, plan}
 use Rattle.machine.specs.Holds.{owes_fill}
+use Rattle.ledger.specs.Ledger.{Sizes}
 use Rattle.ledger.specs.Explains.{Phase, resting, waiting, acted}
 use Rattle.order.specs.Counts.{own_holds}
 
@@ -34,14 +36,19 @@ pub data Stores (q : Spot) (n : Option Record) : Plan → Type 0 where
   reads : Stores q n (plan [] (Save q n store.Answer))
   overwrites : (o : Option Record) → Stores q n (plan [] (Overwrite q o n store.Answer))
 
+-- The root or the position that a spot is at is one of the table's.
+abbrev pub Ranged : Sizes → Spot → Type 0
+Ranged z (Root g) = g.index < z.roots
+Ranged z (Link r x) = x.index < z.positions
+
 -- What a station is in the middle of before the act of its operation. DELETE acts when it begins.
-abbrev pub Waits : (ℕ → Standing) → Operation → Plan → Type 0
-Waits f op.New p = p ≡ plan [] Take
-Waits f (op.Deref q) p = Looks q p
-Waits f (op.Release r) p = (p ≡ plan (Write.Release r ∷ []) (End Outcome.Done)) × (f r.number ≢ Fresh)
-Waits f (op.Cas q o n) p = p ≡ plan [] (Swap q o n swap.Answer)
-Waits f (op.Store r x n) p = Stores (Spot.Link r x) n p
-Waits f (op.Delete r) p = ⊥
+abbrev pub Waits : Sizes → (ℕ → Standing) → Operation → Plan → Type 0
+Waits z f op.New p = p ≡ plan [] Take
+Waits z f (op.Deref q) p = Looks q p × Ranged z q
+Waits z f (op.Release r) p = (p ≡ plan (Write.Release r ∷ []) (End Outcome.Done)) × (f r.number ≢ Fresh)
+Waits z f (op.Cas q o n) p = (p ≡ plan [] (Swap q o n swap.Answer)) × Ranged z q
+Waits z f (op.Store r x n) p = Stores (Link r x) n p × Ranged z (Link r x)
+Waits z f (op.Delete r) p = ⊥
 
 -- Where an operation that acted may go on, and with what it ends: NEW, CAS and STORE only owe what is left, DELETE cleans and scans.
 abbrev pub AfterLooking : AfterLook → Type 0
@@ -92,13 +99,13 @@ Acted answer ws (AskLink e x) = (answer ≡ Outcome.Done) × Calm ws
 Acted answer ws (Give e) = (answer ≡ Outcome.Done) × Calm ws
 
 -- The phase of a station's operation fits what the station is in the middle of.
-abbrev pub InPhase : (ℕ → Standing) → Option Plan → Phase → Type 0
-InPhase f None resting = Unit {0}
-InPhase f None (waiting o) = ⊥
-InPhase f None (acted answer) = ⊥
-InPhase f (Some p) resting = ⊥
-InPhase f (Some p) (waiting o) = Waits f o p
-InPhase f (Some p) (acted answer) = Acted answer p.owed p.point
+abbrev pub InPhase : Sizes → (ℕ → Standing) → Option Plan → Phase → Type 0
+InPhase z f None resting = Unit {0}
+InPhase z f None (waiting o) = ⊥
+InPhase z f None (acted answer) = ⊥
+InPhase z f (Some p) resting = ⊥
+InPhase z f (Some p) (waiting o) = Waits z f o p
+InPhase z f (Some p) (acted answer) = Acted answer p.owed p.point
 
 -- The holds that a station has beside those of the ledger: an operation that has yet to act has none.
 abbrev pub beside : Option Plan → Phase → Record → ℕ

@@ -70,12 +70,10 @@ pub record Related (t : Table) (l : Ledger) (ph : Phases) : Type 0 where
   -- what each spot names, and each standing;
   pub names : (q : Spot) → l.names q ≡ name_at t.shared q
   pub standings : (r : Record) → l.standing r ≡ t.standing r.number
-  -- what a link of a retired record names now is among what it has named since;
-  pub since : (r : Record) (x : Position) → l.standing r ≡ Retired → l.since r x (l.names (Spot.Link r x)) ≡ true
   -- each station's holds, but for those that it has for itself;
   pub holds : (s : Station) (r : Record) → s.number < t.sizes.stations →
       l.holds s r + beside (t.seats s.number).work (ph s) r ≡ slots_holding t s.number r + in_hand (t.seats s.number).work r
   -- where each station's operation is,
-  pub phases : (s : Station) → s.number < t.sizes.stations → InPhase t.standing (t.seats s.number).work (ph s)
+  pub phases : (s : Station) → s.number < t.sizes.stations → InPhase (sizes t.sizes) t.standing (t.seats s.number).work (ph s)
   -- and what a CLEAN found.
   pub past : (s : Station) → s.number < t.sizes.stations → PastOf (sizes t.sizes) l (t.seats s.number).work
