@@ -106,7 +106,7 @@ sound_places t k = record {
     listed : (p j : ℕ) (r : Record) → p < 8 → j < 64 → t.shared.places p j ≡ Some r → k.state.lists (place_number p j) ≡ Some r.number
     listed p j r l h e = k.inv.claimed.placed (place_number p j) r.number (omega arith) (k.fits.agrees.places p j l ∙ ap num e)
 
-none_of : (v : Option Record) → num v ≡ None → v ≡ None
+pub none_of : (v : Option Record) → num v ≡ None → v ≡ None
 none_of None e = refl
 none_of (Some r) e = absurd (none_some (sym e))
 

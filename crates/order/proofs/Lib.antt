@@ -4,3 +4,7 @@ pub mod Starts
 pub mod Onward
 pub mod Withdraws
 pub mod Here
+pub mod Unused
+pub mod Quiet
+pub mod Writing
+pub mod Giving

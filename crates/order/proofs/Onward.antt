@@ -97,7 +97,7 @@ fill_either j a i b c e = go (j.index == i)
     go true = refl
     go false = e
 
-owes_both : (ws vs : List Write) (i : ℕ) → owes_fill (ws ++ vs) i ≡ (owes_fill ws i || owes_fill vs i)
+pub owes_both : (ws vs : List Write) (i : ℕ) → owes_fill (ws ++ vs) i ≡ (owes_fill ws i || owes_fill vs i)
 owes_both [] vs i = refl
 owes_both (w.FillSlot j v ∷ ws) vs i = fill_either j (owes_fill (ws ++ vs) i) i (owes_fill ws i) (owes_fill vs i) (owes_both ws vs i)
 owes_both (w.Release r ∷ ws) vs i = owes_both ws vs i
@@ -116,7 +116,7 @@ owes_both (w.SetDone j ∷ ws) vs i = owes_both ws vs i
 owes_both (w.AddClaim q j ∷ ws) vs i = owes_both ws vs i
 owes_both (w.DropClaim q j ∷ ws) vs i = owes_both ws vs i
 
-releases_both : (ws vs : List Write) (r : Record) → releases_of (ws ++ vs) r ≡ releases_of ws r + releases_of vs r
+pub releases_both : (ws vs : List Write) (r : Record) → releases_of (ws ++ vs) r ≡ releases_of ws r + releases_of vs r
 releases_both [] vs r = omega arith
 releases_both (w.Release x ∷ ws) vs r = let h = releases_both ws vs r in omega (arith, h)
 releases_both (w.FillSlot j v ∷ ws) vs r = releases_both ws vs r
@@ -135,7 +135,7 @@ releases_both (w.SetDone j ∷ ws) vs r = releases_both ws vs r
 releases_both (w.AddClaim q j ∷ ws) vs r = releases_both ws vs r
 releases_both (w.DropClaim q j ∷ ws) vs r = releases_both ws vs r
 
-filled_both : (ws vs : List Write) (r : Record) → filled_with (ws ++ vs) r ≡ filled_with ws r + filled_with vs r
+pub filled_both : (ws vs : List Write) (r : Record) → filled_with (ws ++ vs) r ≡ filled_with ws r + filled_with vs r
 filled_both [] vs r = omega arith
 filled_both (w.FillSlot j v ∷ ws) vs r = let h = filled_both ws vs r in omega (arith, h)
 filled_both (w.Release x ∷ ws) vs r = filled_both ws vs r

@@ -66,19 +66,26 @@ not_retired x e h = grind arith
 pub differs : (q s : Station) → (q ≡ s → ⊥) → same_station q s ≡ false
 differs q s d = elim (cases_Bool (same_station q s)) [ inl x ↦ absurd (d (same_station_is q s x)) | inr x ↦ x ]
 
+-- Each standing after one is set, in the ledger and in the table.
+pub stand_after : (f : Record → Standing) (g : ℕ → Standing) → ((r : Record) → f r ≡ g r.number) → (r : Record) (v : Standing) → r.number < 128 → (c : Record) → changed same_record f r v c ≡ set_standing g r.number v c.number
+stand_after f g same r v small c = elim (put_tells 128 g r.number v c.number) [
+  | inl (y, d, _) ↦ cond-true _ v (f c) (eq-eqb c.number r.number (sym d)) ∙ sym y
+  | inr (y, d) ↦ cond-false _ v (f c) (ne_eqb c.number r.number (λ i. d (sym i) small)) ∙ same c ∙ sym y
+]
+
 -- What a phase asks of standings is only that a record to be released is not fresh.
-pub still_in_phase : (z : Sizes) (f g : ℕ → Standing) → ((k : ℕ) → g k ≡ Fresh → f k ≡ Fresh) → (p : Option Plan) (x : Phase) → InPhase z f p x → InPhase z g p x
-still_in_phase z f g h None resting d = d
-still_in_phase z f g h None (waiting o) d = absurd d
-still_in_phase z f g h None (acted a) d = absurd d
-still_in_phase z f g h (Some p) resting d = absurd d
-still_in_phase z f g h (Some p) (acted a) d = d
-still_in_phase z f g h (Some p) (waiting op.New) d = d
-still_in_phase z f g h (Some p) (waiting (op.Deref q)) d = d
-still_in_phase z f g h (Some p) (waiting (op.Release r)) (d, e) = (d, λ k. e (h r.number k))
-still_in_phase z f g h (Some p) (waiting (op.Cas q o n)) d = d
-still_in_phase z f g h (Some p) (waiting (op.Store r x n)) d = d
-still_in_phase z f g h (Some p) (waiting (op.Delete r)) d = absurd d
+pub still_in_phase : (z : Sizes) (f g : ℕ → Standing) (p : Option Plan) (x : Phase) → ((r : Record) → x ≡ waiting (op.Release r) → g r.number ≡ Fresh → f r.number ≡ Fresh) → InPhase z f p x → InPhase z g p x
+still_in_phase z f g None resting h d = d
+still_in_phase z f g None (waiting o) h d = absurd d
+still_in_phase z f g None (acted a) h d = absurd d
+still_in_phase z f g (Some p) resting h d = absurd d
+still_in_phase z f g (Some p) (acted a) h d = d
+still_in_phase z f g (Some p) (waiting op.New) h d = d
+still_in_phase z f g (Some p) (waiting (op.Deref q)) h d = d
+still_in_phase z f g (Some p) (waiting (op.Release r)) h (d, e) = (d, λ k. e (h r refl k))
+still_in_phase z f g (Some p) (waiting (op.Cas q o n)) h d = d
+still_in_phase z f g (Some p) (waiting (op.Store r x n)) h d = d
+still_in_phase z f g (Some p) (waiting (op.Delete r)) h d = absurd d
 
 -- What a CLEAN found is still so where withdrawn records stay so, with what their links have named, and lasting ones last.
 pub record Lasts (l m : Ledger) : Type 0 where
@@ -143,18 +150,6 @@ module _ (t : Table) (ok : Sound t) (run : Run) (e : Explained t run) (s : Stati
       let k = counted_at (λ i. same_name (t.shared.slots s.number i) (Some r)) 8 (lowest_naming (t.shared.slots s.number) r) here (lowest_at (λ i. same_name (t.shared.slots s.number i) (Some r)) 8 here) in
       let h = idle_holds t ok run e s c.idle c.station r in
       omega (arith, h, k)
-
-  other_standing : (q : Record) → after.standing q ≡ set_standing t.standing r.number Retired q.number
-  other_standing q = elim (stand_tells l.standing r Retired q) [
-    | inl (is, x) ↦ elim (put_tells 128 t.standing r.number Retired q.number) [
-      | inl (y, _, _) ↦ x ∙ sym y
-      | inr (_, d) ↦ absurd (d (ap (λ (o : Record). o.number) (sym is)) small)
-    ]
-    | inr (is, x) ↦ elim (put_tells 128 t.standing r.number Retired q.number) [
-      | inl (_, y, _) ↦ absurd (true≢false (sym (eq-eqb q.number r.number (sym y)) ∙ is))
-      | inr (y, _) ↦ x ∙ e.related.standings q ∙ sym y
-    ]
-  ]
 
   -- A record that is fresh afterwards was fresh, and one that is withdrawn stays so.
   was_fresh : (k : ℕ) → set_standing t.standing r.number Retired k ≡ Fresh → t.standing k ≡ Fresh
@@ -224,11 +219,11 @@ module _ (t : Table) (ok : Sound t) (run : Run) (e : Explained t run) (s : Stati
     explains = begins_acting s (op.Delete r) Outcome.Done e.explains (rests (sizes t.sizes) t.standing (t.seats s.number).work (e.phases s) c.idle (e.related.phases s c.station)) allowed;
     related = record {
       names = e.related.names;
-      standings = other_standing;
+      standings = stand_after l.standing t.standing e.related.standings r Retired small;
       holds = λ q k b. each_holds k q b;
       phases = seat_tells t s (Some (plan (owed i) x)) n waiting_phases (acted Outcome.Done) low (λ q y z. q.number < t.sizes.stations → InPhase (sizes t.sizes) (set_standing t.standing r.number Retired) y.work z)
           (λ b. round.acted (owed i) (λ j. refl))
-          (λ q d b. subst (λ (y : Phase). InPhase (sizes t.sizes) (set_standing t.standing r.number Retired) (t.seats q.number).work y) (phase_there q d) (still_in_phase (sizes t.sizes) t.standing (set_standing t.standing r.number Retired) was_fresh (t.seats q.number).work (e.phases q) (e.related.phases q b)));
+          (λ q d b. subst (λ (y : Phase). InPhase (sizes t.sizes) (set_standing t.standing r.number Retired) (t.seats q.number).work y) (phase_there q d) (still_in_phase (sizes t.sizes) t.standing (set_standing t.standing r.number Retired) (t.seats q.number).work (e.phases q) (λ c _ h. was_fresh c.number h) (e.related.phases q b)));
       past = seat_tells t s (Some (plan (owed i) x)) n waiting_phases (acted Outcome.Done) low (λ q y z. q.number < t.sizes.stations → PastOf (sizes t.sizes) after y.work)
           (λ b. round.past) (λ q d b. lasts_of (sizes t.sizes) l after lasts (t.seats q.number).work (e.related.past q b));
     };
