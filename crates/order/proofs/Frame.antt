@@ -4,7 +4,6 @@ use Rattle.std.proofs.lemmas.Bool.{eq-eqb, true≢false}
 use mathlib.Core.Path.{fun_ext}
 use Rattle.terms.specs.declared.Record.{Record}
 use Rattle.terms.specs.declared.Station.{Station}
-use Rattle.terms.specs.declared.Position.{Position}
 use Rattle.terms.specs.declared.Spot.{Spot}
 use Rattle.terms.specs.declared.Standing.{Standing}
 use Rattle.terms.specs.declared.Outcome.{Outcome}
@@ -13,7 +12,6 @@ use Rattle.memory.specs.declared.access.Write.{Write}
 use Rattle.work.specs.declared.work.Point.{Point}
 use Rattle.work.specs.declared.work.Point.TheVariants.{End, Take, Look, LookAgain, Verify, Swap, Save, Overwrite, AskDeleted, AskPlace, AskDone, AskPlaceAgain, CountFirst, CountAgain, AskSlot, CountSecond, AskTrace, AskClaims, AskLink, Give}
 use Rattle.work.specs.Steps.{settled, settle}
-use Rattle.terms.specs.declared.Standing.TheVariants.{Retired}
 use Rattle.terms.specs.Words.{same_name}
 use Rattle.terms.proofs.Puts.{put_tells}
 use Rattle.memory.specs.Shared.{Shared, name_at}

@@ -1,16 +1,15 @@
 -- SC23: a record goes back to the pool. The ledger returns it: nobody holds it, nothing names it, and its links name none.
-use Rattle.std.proofs.Common.{◌≡◌, ℕ, ◌+◌, ◌<◌, ◌≤◌, true, ◌==◌, [], Some, None, Option, sym, refl, ap, ◌∙◌, subst, inl, inr, arith}
-use Rattle.std.proofs.lemmas.Bool.{cond-true, cond-false, eq-eqb, true≢false}
+use Rattle.std.proofs.Common.{◌≡◌, ℕ, ◌<◌, ◌≤◌, true, ◌==◌, [], Some, None, Option, sym, refl, ap, ◌∙◌, inl, inr, arith}
+use Rattle.std.proofs.lemmas.Bool.{cond-true, eq-eqb}
 use Rattle.terms.specs.declared.Record.{Record}
 use Rattle.terms.specs.declared.Station.{Station}
-use Rattle.terms.specs.declared.Position.{Position}
 use Rattle.terms.specs.declared.Spot.TheVariants as at
 use Rattle.terms.specs.declared.Outcome.{Outcome}
 use Rattle.terms.specs.declared.Standing.{Standing}
-use Rattle.terms.specs.declared.Standing.TheVariants.{Pooled, Fresh, Retired}
+use Rattle.terms.specs.declared.Standing.TheVariants.{Pooled, Fresh}
 use Rattle.terms.specs.declared.Operation.{Operation}
 use Rattle.terms.specs.declared.Operation.TheVariants as op
-use Rattle.terms.specs.Words.{same_name, put}
+use Rattle.terms.specs.Words.{put}
 use Rattle.terms.proofs.Puts.{put_tells}
 use Rattle.memory.specs.Standings.{set_standing}
 use Rattle.work.specs.declared.work.Reached.{Reached}
@@ -21,27 +20,26 @@ use Rattle.work.specs.declared.work.AfterSwap.TheVariants as swap
 use Rattle.work.specs.declared.work.Point.{Point}
 use Rattle.work.specs.declared.work.Point.TheVariants.{End, Take, Look, LookAgain, Verify, Swap, Save, Overwrite, AskDeleted, AskPlace, AskDone, AskPlaceAgain, CountFirst, CountAgain, AskSlot, CountSecond, AskTrace, AskClaims, AskLink, Give}
 use Rattle.work.specs.Plans.{Plan, plan, Notes, noted, reached}
-use Rattle.work.specs.Steps.{settle, second_next}
+use Rattle.work.specs.Steps.{second_next}
 use Rattle.machine.specs.Tables.{Table, sight_in}
 use Rattle.protocol.specs.State as phases
 use Rattle.protocol.specs.Shape.{through}
-use Rattle.laws.specs.Numbers.{spot_number, link_number, place_number}
+use Rattle.laws.specs.Numbers.{link_number, place_number}
 use Rattle.laws.specs.Agree.{num}
 use Rattle.laws.specs.Fits.{Sound}
 use Rattle.laws.proofs.Promises.{none_of}
 use Rattle.laws.proofs.Spots.{link_owner, spot_names}
-use Rattle.ledger.specs.Words.{same_record, changed}
 use Rattle.ledger.specs.Ledger as ledger
 use Rattle.ledger.specs.Ledger.{Sizes, Ledger, OutOfUse, NamesNothing, with_standing, following}
 use Rattle.ledger.specs.Explains as explains
 use Rattle.ledger.specs.Explains.{Phase, resting, waiting, acted, Run}
-use Rattle.ledger.proofs.Words.{record_same, pooled≢retired, pooled≢fresh}
+use Rattle.ledger.proofs.Words.{pooled≢retired, pooled≢fresh}
 use Rattle.ledger.proofs.Changes.{stand_tells}
-use Rattle.order.specs.Counts.{once, releases_of, looking_for, swapping_for, cleaning_holds}
-use Rattle.order.specs.Phases.{InPhase, Waits, Looks, Stores, first, again, writes, verifies, reads, overwrites, beside}
+use Rattle.order.specs.Counts.{once, looking_for, swapping_for, cleaning_holds}
+use Rattle.order.specs.Phases.{InPhase, Waits, first, again, writes, verifies, reads, overwrites, beside}
 use Rattle.order.specs.Relation.{sizes, Lasting, PastLook, PastSwap, Past, PastOf}
 use Rattle.order.specs.Theorems.{Explained}
-use Rattle.order.proofs.Frame.{HoldsBy, After, Came, arrives}
+use Rattle.order.proofs.Frame.{arrives}
 use Rattle.order.proofs.Onward.{Onward, onward_holds, second_onward}
 use Rattle.order.proofs.Withdraws.{stand_after, still_in_phase}
 use Rattle.order.proofs.Here.{Turned, low, at_point, holds_in, by_phase, still, orderly}

@@ -1,41 +1,33 @@
 -- What is known where a station takes a turn: of its slots, its decision, the ledger's holds and its phase.
-use Rattle.std.proofs.Common.{◌≡◌, ℕ, ◌+◌, ◌<◌, Bool, true, false, not, ◌&&◌, List, [], ◌∷◌, Some, None, Option, sym, refl, ap, ◌∙◌, subst, inl, inr, arith}
-use Rattle.std.proofs.lemmas.Bool.{and_from}
+use Rattle.std.proofs.Common.{◌≡◌, ℕ, ◌<◌, false, [], ◌∷◌, Some, Option, sym, refl, ◌∙◌, subst, arith}
 use Rattle.terms.specs.declared.Record.{Record}
 use Rattle.terms.specs.declared.Station.{Station}
 use Rattle.terms.specs.declared.Outcome.{Outcome}
 use Rattle.terms.specs.declared.Operation.{Operation}
-use Rattle.terms.specs.declared.Standing.{Standing}
-use Rattle.terms.specs.Words.{same_name}
-use Rattle.memory.specs.declared.access.Write.{Write}
 use Rattle.work.specs.declared.work.Point.{Point}
-use Rattle.work.specs.Plans.{Plan, plan, Notes, Sight}
+use Rattle.work.specs.Plans.{Plan, plan, Notes}
 use Rattle.work.specs.Steps.{settle}
 use Rattle.machine.specs.Tables.{Table}
 use Rattle.machine.specs.Steps.{turned, turn_answer}
-use Rattle.machine.specs.Holds.{owes_fill, looks_into, is_verified}
-use Rattle.laws.specs.Numbers.{slot_number}
+use Rattle.machine.specs.Holds.{looks_into}
 use Rattle.laws.specs.Agree.{num}
-use Rattle.laws.specs.Mine.{Mine, mine}
+use Rattle.laws.specs.Mine.{mine}
 use Rattle.laws.specs.Owes as owes
 use Rattle.laws.specs.Owes.{Owes}
 use Rattle.laws.specs.Points.{AtPoint}
 use Rattle.laws.specs.Fits.{Working, Sound}
 use Rattle.laws.proofs.Rows.{row_at}
-use Rattle.laws.proofs.Names.{num_same}
-use Rattle.ledger.specs.Ledger as ledger
 use Rattle.ledger.specs.Ledger.{Ledger}
 use Rattle.ledger.specs.Laws.{Lawful}
-use Rattle.ledger.specs.Explains.{Phase, resting, waiting, acted, Run, Phases, moved, Explains}
+use Rattle.ledger.specs.Explains.{Phase, resting, waiting, acted, Run, moved, Explains}
 use Rattle.ledger.proofs.Order.{ledgers_keep_order}
 use Rattle.ledger.proofs.Extend.{same_phases}
 use Rattle.order.specs.Counts.{in_hand_at, cleaning_holds}
 use Rattle.order.specs.Phases.{InPhase, Acted}
 use Rattle.order.specs.Relation.{sizes, Past, PastOf}
 use Rattle.order.specs.Theorems.{Explained, happened}
-use Rattle.order.proofs.Frame.{HoldsBy, After, moved_still, Came, arrives, waits_on}
+use Rattle.order.proofs.Frame.{HoldsBy, After, moved_still, Came, arrives}
 use Rattle.order.proofs.Onward.{Onward, onward_holds}
-use Rattle.order.proofs.Withdraws.{counted_at}
 
 -- the table after a turn of station s that is in the middle of w, and its run
 abbrev pub Turned : (t : Table) → Run → (s : Station) → Option ℕ → Plan → Type 0

@@ -8,3 +8,8 @@ pub mod Unused
 pub mod Quiet
 pub mod Writing
 pub mod Giving
+pub mod Taking
+pub mod Owing
+pub mod Looking
+pub mod Turns
+pub mod Runs

@@ -1,11 +1,10 @@
 -- Where a station goes on to without a dereference under way: it has nothing of its own beside what it owes.
-use Rattle.std.proofs.Common.{◌≡◌, ℕ, ◌+◌, ◌<◌, Bool, true, false, not, ◌&&◌, ◌||◌, ◌==◌, ltb, nat_le, List, [], ◌∷◌, ◌++◌, length, Some, None, Option, sym, refl, ap, ◌∙◌, subst, inl, inr, arith}
+use Rattle.std.proofs.Common.{◌≡◌, ℕ, ◌+◌, Bool, true, false, not, ◌&&◌, ◌||◌, ◌==◌, ltb, nat_le, List, [], ◌∷◌, ◌++◌, length, Some, None, Option, sym, refl, ap, ◌∙◌, inl, arith}
 use Rattle.std.proofs.lemmas.Bool.{cond_both}
 use Rattle.terms.specs.declared.Record.{Record}
 use Rattle.terms.specs.declared.Station.{Station}
 use Rattle.terms.specs.declared.Slot.{Slot}
 use Rattle.terms.specs.declared.Place.{Place}
-use Rattle.terms.specs.declared.Position.{Position}
 use Rattle.terms.specs.declared.Outcome.{Outcome}
 use Rattle.terms.specs.Words.{same_name}
 use Rattle.memory.specs.declared.access.Write.{Write}
@@ -16,9 +15,9 @@ use Rattle.work.specs.declared.work.Round as rounds
 use Rattle.work.specs.declared.work.Round.TheVariants.{Own, All}
 use Rattle.work.specs.declared.work.Clean.{Clean}
 use Rattle.work.specs.declared.work.Point.{Point}
-use Rattle.work.specs.declared.work.Point.TheVariants.{End, Take, Look, LookAgain, Verify, Swap, Save, Overwrite, AskDeleted, AskPlace, AskDone, AskPlaceAgain, CountFirst, CountAgain, AskSlot, CountSecond, AskTrace, AskClaims, AskLink, Give}
+use Rattle.work.specs.declared.work.Point.TheVariants.{End, AskPlace, CountFirst, AskSlot, CountSecond}
 use Rattle.work.specs.Plans.{Plan, plan, Notes, Sight, head_of, reached, station, slot, place}
-use Rattle.work.specs.Steps.{round_at, clean_at, first_pass, next_place, own_next, record_clean, link_clean, release_of, scan_end, second_at, second_start, next_slot, lower, count_kept, Turn}
+use Rattle.work.specs.Steps.{round_at, clean_at, first_pass, next_place, own_next, record_clean, link_clean, release_of, scan_end, second_at, second_start, next_slot, lower, count_kept}
 use Rattle.machine.specs.Holds.{owes_fill, looks_into, is_verified}
 use Rattle.ledger.specs.Ledger.{Sizes, Ledger}
 use Rattle.ledger.specs.Explains.{acted}

@@ -1,15 +1,13 @@
 -- A record that a scan has let through is out of use: for the ledger too, nobody holds it and nothing names it.
-use Rattle.std.proofs.Common.{◌≡◌, ℕ, zero, suc, ◌+◌, ◌<◌, ◌≤◌, Bool, true, false, cond, ◌&&◌, ◌||◌, List, [], ◌∷◌, Some, None, Option, sym, refl, ap, ◌∙◌, subst, inl, inr, arith}
+use Rattle.std.proofs.Common.{◌≡◌, ℕ, zero, suc, ◌+◌, ◌<◌, Bool, true, false, cond, ◌&&◌, ◌||◌, List, [], ◌∷◌, Some, None, Option, sym, refl, ap, ◌∙◌, inl, inr, arith}
 use Rattle.std.proofs.lemmas.Bool.{cases_Bool, true≢false, eq-eqb}
 use Rattle.terms.specs.declared.Record.{Record}
 use Rattle.terms.specs.declared.Station.{Station}
-use Rattle.terms.specs.declared.Slot.{Slot}
 use Rattle.terms.specs.declared.Spot.{Spot}
 use Rattle.terms.specs.declared.Spot.TheVariants as at
 use Rattle.terms.specs.declared.Outcome.{Outcome}
 use Rattle.terms.specs.declared.Standing.{Standing}
-use Rattle.terms.specs.declared.Standing.TheVariants.{Fresh, Retired}
-use Rattle.terms.specs.declared.Operation.{Operation}
+use Rattle.terms.specs.declared.Standing.TheVariants.{Retired}
 use Rattle.terms.specs.declared.Operation.TheVariants as op
 use Rattle.terms.specs.Words.{same_name}
 use Rattle.memory.specs.declared.access.Write.{Write}
@@ -20,10 +18,9 @@ use Rattle.work.specs.Plans.{Plan, plan, Notes}
 use Rattle.machine.specs.Tables.{Table}
 use Rattle.machine.specs.Tables as machine
 use Rattle.machine.specs.Holds.{owes_fill, is_verified}
-use Rattle.protocol.specs.Words.{upd}
 use Rattle.protocol.specs.Shape.{through}
 use Rattle.protocol.specs.Clauses.{Unreferenced}
-use Rattle.protocol.proofs.Words.{none_some, some_same, upd_same}
+use Rattle.protocol.proofs.Words.{none_some, upd_same}
 use Rattle.laws.specs.Numbers.{shape, slot_number, spot_number}
 use Rattle.laws.specs.Agree.{num}
 use Rattle.laws.specs.Mine.{Mine, mine}
@@ -39,7 +36,7 @@ use Rattle.ledger.proofs.Words.{same_name_is, fresh≢retired}
 use Rattle.ledger.specs.Ledger.{Sizes, Ledger, Inside, OutOfUse}
 use Rattle.ledger.specs.Explains.{Phase, resting, waiting, acted, Run}
 use Rattle.order.specs.Counts.{count, slots_holding, once, filled_with, in_hand_at, in_hand}
-use Rattle.order.specs.Phases.{InPhase, Waits, Acted, Calm, Filling, all, two, one, Looks, Stores, first, again, writes, verifies, reads, overwrites, beside}
+use Rattle.order.specs.Phases.{InPhase, Calm, Filling, all, two, one, Looks, Stores, first, again, writes, verifies, reads, overwrites, beside}
 use Rattle.order.specs.Relation.{sizes}
 use Rattle.order.specs.Theorems.{Explained}
 
@@ -156,7 +153,7 @@ module _ (t : Table) (k : Sound t) (run : Run) (e : Explained t run) (r : Record
       let most = k.lawful.stations in
       let named : (mine k.state q).slot i ≡ Some r.number = row_at k.state.slot q i h ∙ k.fits.agrees.slots q i h ∙ same_num (t.shared.slots q i) (Some r) same in
       nowhere.slots (slot_number q i) (omega arith)
-          (sym (row_at k.state.held q i h) ∙ verified_holds t.sizes (t.seats q).notes (mine k.state q) (t.seats q).work i (k.fits.seats q b) firm r.number named)
+      (sym (row_at k.state.held q i h) ∙ verified_holds t.sizes (t.seats q).notes (mine k.state q) (t.seats q).work i (k.fits.seats q b) firm r.number named)
 
   -- Nobody holds it, and no operation has it beside.
   pub nobody : (q : Station) → q.number < t.sizes.stations → (l.holds q r ≡ 0) × (beside (t.seats q.number).work (e.phases q) r ≡ 0)
@@ -165,7 +162,7 @@ module _ (t : Table) (k : Sound t) (run : Run) (e : Explained t run) (r : Record
       let h = e.related.holds q r b in
       let slots : slots_holding t q.number r ≡ 0 = count_zero _ 8 (λ i i8. both_not _ _ (λ same firm. not_in_slot q.number i b i8 same firm)) in
       let hand = hand_zero t.sizes (sizes t.sizes) t.standing (t.seats q.number).notes (mine k.state q.number) (t.seats q.number).work (e.phases q) (e.related.phases q b) (k.fits.seats q.number b) r
-          (λ x. fresh≢retired (k.state.standing r.number) (k.inv.held.fresh q.number r.number (omega arith) x) protocol_retired) in
+      (λ x. fresh≢retired (k.state.standing r.number) (k.inv.held.fresh q.number r.number (omega arith) x) protocol_retired) in
       (omega (arith, h, slots, hand), omega (arith, h, slots, hand))
 
   spotted : (q : Spot) → Inside (sizes t.sizes) q → Spotted q
@@ -173,5 +170,9 @@ module _ (t : Table) (k : Sound t) (run : Run) (e : Explained t run) (r : Record
   spotted (at.Link c x) (i, j) = let most = k.lawful.records in let four = k.lawful.positions in (omega arith, omega arith)
 
   pub out_of_use : OutOfUse (sizes t.sizes) l r
-  out_of_use = (retired, (λ q b. (nobody q b).0), λ q i x. nowhere.spots (spot_number q) (spotted_below q (spotted q i))
-      (spot_names t.sizes t.shared t.standing k.state k.fits.agrees q (spotted q i) ∙ ap num (sym (e.related.names q) ∙ x)))
+  out_of_use = (
+    retired,
+    (λ q b. (nobody q b).0),
+    λ q i x. nowhere.spots (spot_number q) (spotted_below q (spotted q i))
+        (spot_names t.sizes t.shared t.standing k.state k.fits.agrees q (spotted q i) ∙ ap num (sym (e.related.names q) ∙ x)),
+  )

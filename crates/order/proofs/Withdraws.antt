@@ -1,6 +1,6 @@
 -- DELETE begins: it acts at once, so the ledger's record is retired with one hold less, while the station still has it in a slot.
-use Rattle.std.proofs.Common.{◌≡◌, ℕ, zero, suc, ◌+◌, ◌-◌, ◌<◌, Bool, true, false, cond, not, ◌&&◌, ◌==◌, eqb, nat_le, List, [], ◌∷◌, length, Some, None, Option, sym, refl, ap, ◌∙◌, subst, inl, inr, arith}
-use Rattle.std.proofs.lemmas.Bool.{ltb-true, eq-eqb, ne_eqb, cases_Bool, cases_lt, true≢false, cond_both, cond-true, cond-false}
+use Rattle.std.proofs.Common.{◌≡◌, ℕ, zero, suc, ◌+◌, ◌-◌, ◌<◌, Bool, true, false, cond, not, ◌&&◌, eqb, List, [], ◌∷◌, Some, None, Option, sym, refl, ap, ◌∙◌, subst, inl, inr, arith}
+use Rattle.std.proofs.lemmas.Bool.{ltb-true, eq-eqb, ne_eqb, cases_Bool, cases_lt, true≢false, cond-true, cond-false}
 use Rattle.terms.specs.declared.Record.{Record}
 use Rattle.terms.specs.declared.Station.{Station}
 use Rattle.terms.specs.declared.Position.{Position}
@@ -18,20 +18,18 @@ use Rattle.memory.specs.declared.access.Write.{Write}
 use Rattle.memory.specs.declared.access.Write.TheVariants as w
 use Rattle.memory.specs.Shared.{lowest_naming}
 use Rattle.memory.specs.Standings.{set_standing}
-use Rattle.work.specs.declared.work.Reached.{Reached}
 use Rattle.work.specs.declared.work.Point.{Point}
 use Rattle.work.specs.declared.work.Point.TheVariants.{End, Take, Look, LookAgain, Verify, Swap, Save, Overwrite, AskDeleted, AskPlace, AskDone, AskPlaceAgain, CountFirst, CountAgain, AskSlot, CountSecond, AskTrace, AskClaims, AskLink, Give}
 use Rattle.work.specs.declared.work.AfterLook.{AfterLook}
 use Rattle.work.specs.declared.work.AfterLook.TheVariants as look
 use Rattle.work.specs.declared.work.AfterSwap.{AfterSwap}
 use Rattle.work.specs.declared.work.AfterSwap.TheVariants as swap
-use Rattle.work.specs.declared.work.Round.TheVariants.{Own}
 use Rattle.work.specs.Plans.{Plan, plan, Notes, Sight, with_note, head_of}
 use Rattle.work.specs.declared.notes.Note.{Note}
-use Rattle.work.specs.Steps.{round_at, clean_at, free_place}
+use Rattle.work.specs.Steps.{round_at, free_place}
 use Rattle.machine.specs.Tables.{Table, sight_in}
 use Rattle.machine.specs.Steps.{seated}
-use Rattle.machine.specs.Holds.{looks_into, is_verified}
+use Rattle.machine.specs.Holds.{is_verified}
 use Rattle.machine.specs.Begin as begin
 use Rattle.machine.specs.Begin.{first_failing, begun}
 use Rattle.laws.specs.Fits.{Sound}
@@ -40,10 +38,10 @@ use Rattle.ledger.specs.Words.{same_record, same_station, changed}
 use Rattle.ledger.specs.Ledger.{Sizes, Ledger, Allows, let_go, retire, following}
 use Rattle.ledger.specs.Explains.{begins, Phase, resting, waiting, acted, Run, Phases, moved}
 use Rattle.ledger.proofs.Extend.{begins_acting, moved_there}
-use Rattle.ledger.proofs.Words.{same_station_is, same_record_is, station_same, at_key, name_same, tells}
+use Rattle.ledger.proofs.Words.{same_station_is, same_record_is, station_same, at_key, tells}
 use Rattle.ledger.proofs.Changes.{stand_tells}
-use Rattle.order.specs.Counts.{count, once, in_hand_at, filled_with, cleaning_holds}
-use Rattle.order.specs.Phases.{InPhase, Acted, Calm}
+use Rattle.order.specs.Counts.{count, once}
+use Rattle.order.specs.Phases.{InPhase}
 use Rattle.order.specs.Relation.{sizes, Past, PastOf, PastLook, PastSwap, Lasting}
 use Rattle.order.specs.Theorems.{Explained, BeginningsAreExplained}
 use Rattle.order.proofs.Frame.{HoldsBy, seat_tells}

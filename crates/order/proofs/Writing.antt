@@ -1,6 +1,6 @@
 -- A turn that writes a name into a spot: CAS and STORE act there, and CLEAN leads a link past a withdrawn record or clears it.
-use Rattle.std.proofs.Common.{◌≡◌, ℕ, zero, suc, ◌+◌, ◌<◌, ◌≤◌, Bool, true, false, cond, not, ◌&&◌, ◌||◌, ◌==◌, eqb, List, [], ◌∷◌, ◌++◌, Some, None, Option, sym, refl, ap, ◌∙◌, subst, inl, inr, arith}
-use Rattle.std.proofs.lemmas.Bool.{cases_Bool, true≢false, eq-eqb, ne_eqb, eqb-true, and_from, and_parts, cond-true, cond-false}
+use Rattle.std.proofs.Common.{◌≡◌, ℕ, ◌+◌, ◌<◌, Bool, true, false, cond, not, ◌&&◌, ◌||◌, ◌==◌, List, [], ◌∷◌, ◌++◌, Some, None, Option, sym, refl, ap, ◌∙◌, subst, inl, inr, arith}
+use Rattle.std.proofs.lemmas.Bool.{cases_Bool, eq-eqb, ne_eqb, eqb-true, and_from, and_parts, cond-true, cond-false}
 use Rattle.terms.specs.declared.Record.{Record}
 use Rattle.terms.specs.declared.Station.{Station}
 use Rattle.terms.specs.declared.Position.{Position}
@@ -8,7 +8,7 @@ use Rattle.terms.specs.declared.Spot.{Spot}
 use Rattle.terms.specs.declared.Spot.TheVariants as at
 use Rattle.terms.specs.declared.Outcome.{Outcome}
 use Rattle.terms.specs.declared.Standing.{Standing}
-use Rattle.terms.specs.declared.Standing.TheVariants.{Pooled, Fresh, Retired}
+use Rattle.terms.specs.declared.Standing.TheVariants.{Fresh, Retired}
 use Rattle.terms.specs.declared.Operation.{Operation}
 use Rattle.terms.specs.declared.Operation.TheVariants as op
 use Rattle.terms.specs.Words.{same_name, once_named}
@@ -17,12 +17,11 @@ use Rattle.memory.specs.Shared.{Shared, name_at, set_name}
 use Rattle.memory.specs.Standings.{set_standing, named}
 use Rattle.laws.proofs.Words.{put_in_tells}
 use Rattle.laws.proofs.Spots.{Spotted, link_owner}
-use Rattle.ledger.specs.Words.{same_record, same_spot, changed}
+use Rattle.ledger.specs.Words.{same_spot, changed}
 use Rattle.ledger.specs.Ledger as ledger
 use Rattle.ledger.specs.Ledger.{Sizes, Ledger, OutOfUse, LeadsTo, Settled, following, Reaches, HoldsName, naming, write}
 use Rattle.ledger.proofs.Words.{same_name_is, fresh≢retired, pooled≢retired}
 use Rattle.ledger.proofs.Changes.{naming_tells, noting_keeps}
-use Rattle.memory.specs.Perform as perform
 use Rattle.work.specs.declared.work.AfterSwap.{AfterSwap}
 use Rattle.work.specs.declared.work.AfterSwap.TheVariants as swap
 use Rattle.work.specs.declared.work.AfterStore.{AfterStore}
@@ -34,7 +33,7 @@ use Rattle.work.specs.declared.work.Point.TheVariants.{End, Swap, Overwrite}
 use Rattle.memory.specs.declared.access.Write.{Write}
 use Rattle.memory.specs.declared.access.Write.TheVariants as w
 use Rattle.work.specs.Plans.{Plan, plan, Notes, Sight, noted}
-use Rattle.work.specs.Steps.{settle, raise, lower, counts_of, release_of, clean_at, swapped_of, cleared_of}
+use Rattle.work.specs.Steps.{settle, lower, counts_of, release_of, clean_at, swapped_of, cleared_of}
 use Rattle.machine.specs.Tables.{Table, sight_in}
 use Rattle.machine.specs.Holds.{owes_fill, looks_into, is_verified}
 use Rattle.laws.specs.Fits.{Sound}
@@ -56,13 +55,13 @@ use Rattle.laws.proofs.Names.{num_same}
 use Rattle.ledger.specs.Explains.{Phase, resting, waiting, acted, Run, moved, Explains}
 use Rattle.ledger.specs.Explains as explains
 use Rattle.order.specs.Counts.{count, once, releases_of, filled_with, in_hand_at, cleaning_holds}
-use Rattle.order.specs.Phases.{InPhase, Waits, Ranged, Looks, Stores, first, again, writes, verifies, reads, overwrites, Acted, Calm}
+use Rattle.order.specs.Phases.{InPhase, Waits, Ranged, Looks, Stores, first, again, writes, verifies, reads, overwrites, Calm}
 use Rattle.order.specs.Relation.{sizes, Past, PastSwap, Lasting}
 use Rattle.order.specs.Theorems.{Explained}
-use Rattle.order.proofs.Frame.{HoldsBy, After, Came, arrives, waits_on}
+use Rattle.order.proofs.Frame.{HoldsBy, After, Came, arrives}
 use Rattle.order.proofs.Begins.{count_same}
 use Rattle.order.proofs.Withdraws.{counted_at, stand_after, Lasts, still_in_phase, lasts_of}
-use Rattle.order.proofs.Onward.{Onward, onward_holds, plain_onward, more_onward, clean_round, owes_both, releases_both, filled_both, release_calm, release_fills, release_once, lower_calm, lower_fills, lower_releases}
+use Rattle.order.proofs.Onward.{Onward, onward_holds, plain_onward, clean_round, owes_both, releases_both, filled_both, release_calm, release_fills, release_once, lower_calm, lower_fills, lower_releases}
 use Rattle.order.proofs.Unused.{out_of_use}
 use Rattle.order.proofs.Quiet.{waits_at, emptied_onward, cleared_yes_onward, cleared_no_onward}
 use Rattle.order.proofs.Here.{Turned, quiet_turn, low, at_point, holds_in, past_here, by_phase, still, orderly, slot_same, standing_same, after_same}
@@ -258,12 +257,15 @@ module _ (t : Table) (k : Sound t) (run : Run) (e : Explained t run) (s : Statio
       Came t run e s lw (cond h (set_name t.shared q v) t.shared) (cond h (named t.standing v) t.standing) notes t.pool (settle (plan (cond h (counts_of v o) []) (End (Outcome.Swapped h))))
   cas_turn q o v here is range h hit =
       arrives t run e s lw (cond h (set_name t.shared q v) t.shared) (cond h (named t.standing v) t.standing) notes t.pool (cond h (write l q v) l) (Outcome.Swapped h)
-      (explains.act s (op.Cas q o v) (Outcome.Swapped h) e.explains is (b, (
-        reaches (Swap q o v swap.Answer) here (λ i. refl) (op.Cas q o v) is known.1 q range known.2,
-        carried_has (Swap q o v swap.Answer) here (λ i. refl) (op.Cas q o v) is known.1 v known.3,
-        ap Outcome.Swapped (sym found),
-        ap (λ (c : Bool). cond c (write l q v) l) (sym found),
-      ))) (plan (cond h (counts_of v o) []) (End (Outcome.Swapped h))) (after h)
+      (explains.act s (op.Cas q o v) (Outcome.Swapped h) e.explains is (
+        b,
+        (
+          reaches (Swap q o v swap.Answer) here (λ i. refl) (op.Cas q o v) is known.1 q range known.2,
+          carried_has (Swap q o v swap.Answer) here (λ i. refl) (op.Cas q o v) is known.1 v known.3,
+          ap Outcome.Swapped (sym found),
+          ap (λ (c : Bool). cond c (write l q v) l) (sym found),
+        ),
+      )) (plan (cond h (counts_of v o) []) (End (Outcome.Swapped h))) (after h)
     where
       known : Quiet own × Firm own.slot own.held × Within t.sizes own.held q × Carried own.held v
       known = let (x, firm, (_, w, c, _)) = at_point t k run e s b (Swap q o v swap.Answer) here in (x, firm, w, c)
@@ -289,13 +291,16 @@ module _ (t : Table) (k : Sound t) (run : Run) (e : Explained t run) (s : Statio
       Came t run e s lw (set_name t.shared q v) (named t.standing v) notes t.pool (settle (plan (counts_of v o) (End Outcome.Done)))
   store_turn q o v here r x same is range =
       arrives t run e s lw (set_name t.shared q v) (named t.standing v) notes t.pool (write l q v) Outcome.Done
-      (explains.act s (op.Store r x v) Outcome.Done e.explains is (b, (
-        (range, held_has (Overwrite q o v store.Answer) here (λ i. refl) (op.Store r x v) is firm r held),
-        fresh,
-        carried_has (Overwrite q o v store.Answer) here (λ i. refl) (op.Store r x v) is firm v carried,
-        refl,
-        ap (λ (c : Spot). write l c v) same,
-      ))) (plan (counts_of v o) (End Outcome.Done))
+      (explains.act s (op.Store r x v) Outcome.Done e.explains is (
+        b,
+        (
+          (range, held_has (Overwrite q o v store.Answer) here (λ i. refl) (op.Store r x v) is firm r held),
+          fresh,
+          carried_has (Overwrite q o v store.Answer) here (λ i. refl) (op.Store r x v) is firm v carried,
+          refl,
+          ap (λ (c : Spot). write l c v) same,
+        ),
+      )) (plan (counts_of v o) (End Outcome.Done))
       (after_write q v spotted (carried_low v carried) (plan (counts_of v o) (End Outcome.Done)) (acted Outcome.Done)
       (act_holds (Overwrite q o v store.Answer) here (λ i. refl) (λ r. refl) (op.Store r x v) is (counts_of v o) (counts_calm v o) (counts_releases v o) (counts_fills v o) Outcome.Done)
       (refl, inl (counts_calm v o)) tt)

@@ -2,7 +2,6 @@
 use Rattle.std.specs.Prelude.{◌≡◌, ◌+◌, ◌<◌, true, Some, None, Option, ◌≢◌}
 use Rattle.terms.specs.declared.Record.{Record}
 use Rattle.terms.specs.declared.Station.{Station}
-use Rattle.terms.specs.declared.Position.{Position}
 use Rattle.terms.specs.declared.Spot.{Spot}
 use Rattle.terms.specs.declared.Standing.TheVariants.{Pooled, Fresh, Retired}
 use Rattle.memory.specs.Shared.{name_at}

@@ -1,5 +1,5 @@
 -- What is proved of the table and the ledger side by side.
-use Rattle.std.specs.Prelude.{◌≡◌, ℕ, ◌<◌, true, ◌∷◌, Some, None, Option}
+use Rattle.std.specs.Prelude.{◌≡◌, ℕ, ◌<◌, true, [], ◌∷◌, Some, None, Option}
 use Rattle.terms.specs.declared.Station.{Station}
 use Rattle.terms.specs.declared.Outcome.{Outcome}
 use Rattle.terms.specs.declared.Operation.{Operation}
@@ -9,9 +9,10 @@ use Rattle.memory.specs.declared.access.Access.TheVariants.{Take}
 use Rattle.work.specs.Plans.{Plan, access_of}
 use Rattle.machine.specs.Begin.{begin_refusal, begun}
 use Rattle.machine.specs.Steps.{turned, turn_answer}
-use Rattle.laws.specs.Fits.{Sound}
+use Rattle.laws.specs.Fits.{Lawful, Sound}
 use Rattle.laws.specs.Theorems.{FromPool}
 use Rattle.ledger.specs.Ledger.{Ledger, opening}
+use Rattle.ledger.specs.Explains as explained
 use Rattle.ledger.specs.Explains.{Happening, nothing, begins, ends, resting, Run, Phases, Explains}
 use Rattle.order.specs.Relation.{sizes, Related}
 
@@ -44,3 +45,16 @@ PicksIfAny t w pick = access_of w ≡ Some Take → pick ≡ None → (r : ℕ) 
 abbrev pub TurnsAreExplained : Type 0
 TurnsAreExplained = (t : Table) → Sound t → (run : Run) → Explained t run → (s : Station) → s.number < t.sizes.stations → (w : Plan) → (t.seats s.number).work ≡ Some w →
     (pick : Option ℕ) → FromPool t pick → PicksIfAny t w pick → Explained (turned t pick s.number w) (happened s (turn_answer t pick s.number w) ∷ run)
+
+-- What a run of a new table comes to, call by call: a beginning that is not refused, a turn of a busy station, or a call that leaves
+-- the table as it is, as a refused one does.
+pub data Course (z : machine.Sizes) : Table → Run → Type 0 where
+  fresh_table : Course z (new_table z) []
+  leaves : {t : Table} {run : Run} → Course z t run → Course z t (nothing ∷ run)
+  begin : {t : Table} {run : Run} → Course z t run → (s : Station) (o : Operation) → begin_refusal t s.number o ≡ None → Course z (begun t s.number o) (begins s o ∷ run)
+  turn : {t : Table} {run : Run} → Course z t run → (s : Station) → s.number < t.sizes.stations → (w : Plan) → (t.seats s.number).work ≡ Some w → (pick : Option ℕ) → FromPool t pick → PicksIfAny t w pick →
+      Course z (turned t pick s.number w) (happened s (turn_answer t pick s.number w) ∷ run)
+
+-- Every run of every table is explained by some order of whole acts, however its stations are interleaved.
+abbrev pub RunsAreExplained : Type 0
+RunsAreExplained = (z : machine.Sizes) → Lawful z → (t : Table) (run : Run) → Course z t run → explained.Explained (sizes z) run
