@@ -1,5 +1,6 @@
 -- A line of hexadecimal digits, and the bytes that it stands for.
 use Rattle.std.specs.Prelude.{◌≡◌, ℕ, ◌+◌, ◌-◌, ◌*◌, ◌/◌, ◌%◌, ◌<◌, ◌≤◌, cond, ◌&&◌, List, [], ◌∷◌, length, take, Some, None, Ok, Err, Option, Result, nat_le, nat_lt}
+use Rattle.rooms.specs.Held.{held}
 use Rattle.frames.specs.declared.line.LineBytes.{LineBytes}
 use Rattle.frames.specs.declared.line.LineText.{LineText}
 use Rattle.frames.specs.declared.refusal.LineFault.{LineFault}
@@ -7,13 +8,13 @@ use Rattle.frames.specs.declared.refusal.LineFault.TheVariants as fault
 
 -- what the room for a line holds
 abbrev pub line_bytes : LineBytes → List ℕ
-line_bytes b = b.items.items
+line_bytes b = held b.items
 
 abbrev pub text_digits : LineText → List ℕ
-text_digits t = take (length t.signs.items - 1) t.signs.items
+text_digits t = take (length (held t.signs) - 1) (held t.signs)
 
 abbrev pub text_line : LineText → List ℕ
-text_line t = t.signs.items
+text_line t = held t.signs
 
 -- bytes are written into the room for a line, or are too many for it
 abbrev pub FitsLine : List ℕ → Option LineBytes → Type 0

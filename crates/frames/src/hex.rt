@@ -5,7 +5,7 @@ ghost use Rattle.frames.specs.Hexadecimal.{bytes_of_line, byte_of, capital_of, w
 
 use crate::line::{LineBytes, LineText};
 use crate::refusal::LineFault;
-use arrayvec::ArrayVec;
+use rooms::Room;
 
 // The byte of a pair of digits of either case.
 fn byte(high: u8, low: u8) -> Option<u8>
@@ -23,9 +23,9 @@ fn bytes_of_line(line: &[u8]) -> Option<LineBytes>
     let (pairs, []) = line.as_chunks::<2>() else {
         return None;
     };
-    let mut items = ArrayVec::new();
+    let mut items = Room::new();
     for &[high, low] in pairs {
-        items.try_push(byte(high, low)?).ok()?;
+        items.push(byte(high, low)?).ok()?;
     }
     Some(LineBytes { items })
 }
@@ -56,11 +56,11 @@ pub fn encode(bytes: &LineBytes) -> LineText
     ensures short { length (text_line result) ≤ 129 }
 {
     // Kept digits by hand: `write!` takes 0.9 seconds in place of 0.03 for a million long lines and may fail; `char::from_digit` gives an option of a small letter.
-    let mut signs = ArrayVec::new();
+    let mut signs = Room::new();
     for &byte in bytes.as_slice() {
-        signs.push(capital(byte / 16));
-        signs.push(capital(byte % 16));
+        signs.push(capital(byte / 16)).unwrap();
+        signs.push(capital(byte % 16)).unwrap();
     }
-    signs.push(b'\n');
+    signs.push(b'\n').unwrap();
     LineText { signs }
 }

@@ -2,12 +2,12 @@
 ghost use Rattle.std.specs.Prelude.{◌≡◌, ◌≤◌, ◌++◌, length};
 ghost use Rattle.frames.specs.Hexadecimal.{line_bytes, text_digits, text_line, FitsLine};
 
-use arrayvec::ArrayVec;
+use rooms::Room;
 
 // The bytes of a line.
-#[derive(Clone, PartialEq, Eq, Debug, Drop)]
+#[derive(Clone, Copy, PartialEq, Eq, Debug)]
 pub struct LineBytes {
-    pub(crate) items: ArrayVec<u8, 64>,
+    pub(crate) items: Room<u8, 64>,
 }
 
 impl LineBytes {
@@ -15,9 +15,9 @@ impl LineBytes {
     pub fn joined(head: &[u8], tail: &[u8]) -> Option<LineBytes>
         ensures { FitsLine (head.now ++ tail.now) result }
     {
-        let mut items = ArrayVec::new();
-        items.try_extend_from_slice(head).ok()?;
-        items.try_extend_from_slice(tail).ok()?;
+        let mut items = Room::new();
+        items.extend_from_slice(head).ok()?;
+        items.extend_from_slice(tail).ok()?;
         Some(LineBytes { items })
     }
 
@@ -30,9 +30,9 @@ impl LineBytes {
 }
 
 // A line as it is written: its digits, and then a newline.
-#[derive(Clone, PartialEq, Eq, Debug, Drop)]
+#[derive(Clone, Copy, PartialEq, Eq, Debug)]
 pub struct LineText {
-    pub(crate) signs: ArrayVec<u8, 129>,
+    pub(crate) signs: Room<u8, 129>,
 }
 
 impl LineText {
@@ -41,7 +41,7 @@ impl LineText {
         ensures value { result.now ≡ text_digits self.now }
         ensures short { length result.now ≤ 128 }
     {
-        match self.signs.split_last() {
+        match self.signs.as_slice().split_last() {
             Some((_newline, digits)) => digits,
             None => &[],
         }

@@ -1,9 +1,10 @@
 -- The digits so far and those of the bytes that are left are those of all bytes.
 use Rattle.std.proofs.Common.{◌≡◌, ◌+◌, ◌++◌, length, drop}
+use Rattle.rooms.specs.Held.{held}
 use Rattle.frames.specs.Hexadecimal.{written}
 use Rattle.frames.proofs.hex.encode.Given as goal
 
 abbrev pub invariant-loop-byte : goal.invariant-loop-byte
 invariant-loop-byte l =
-    (l.signs.items ++ written (drop l.byte-index l.byte-items) ≡ written l.byte-items)
-    × (length l.signs.items ≡ l.byte-index + l.byte-index)
+    (held l.signs ++ written (drop l.byte-index l.byte-items) ≡ written l.byte-items)
+    × (length (held l.signs) ≡ l.byte-index + l.byte-index)
