@@ -7,6 +7,8 @@ use crate::line::{LineBytes, LineText};
 use crate::refusal::LineFault;
 use rooms::Room;
 
+const MOST_DIGITS: usize = 128;
+
 // The byte of a pair of digits of either case.
 fn byte(high: u8, low: u8) -> Option<u8>
     ensures { result ≡ byte_of high low }
@@ -20,6 +22,10 @@ fn byte(high: u8, low: u8) -> Option<u8>
 fn bytes_of_line(line: &[u8]) -> Option<LineBytes>
     ensures { option_map line_bytes result ≡ bytes_of_line line.now }
 {
+    // Told first, so that a line that is too long costs no more than a look at its length.
+    if line.len() > MOST_DIGITS {
+        return None;
+    }
     let (pairs, []) = line.as_chunks::<2>() else {
         return None;
     };
