@@ -1,6 +1,6 @@
 // Room for one line: up to 64 bytes, and up to 128 digits with a newline. No memory is asked for.
 ghost use Rattle.std.specs.Prelude.{◌≡◌, ◌≤◌, ◌++◌, length};
-ghost use Rattle.frames.specs.Hexadecimal.{line_bytes, text_digits, text_line, FitsLine};
+ghost use Rattle.rooms.specs.Held.{held};
 
 use rooms::Room;
 
@@ -11,6 +11,8 @@ pub struct LineBytes {
 }
 
 impl LineBytes {
+    ghost use Rattle.frames.specs.Hexadecimal.{line_bytes, FitsLine};
+
     // Two stretches of bytes, one after the other, if they fit a line.
     pub fn joined(head: &[u8], tail: &[u8]) -> Option<LineBytes>
         ensures { FitsLine (head.now ++ tail.now) result }
@@ -33,18 +35,20 @@ impl LineBytes {
 #[derive(Clone, Copy, PartialEq, Eq, Debug)]
 pub struct LineText {
     pub(crate) signs: Room<u8, 129>,
+    // the newline at least
+    ghost ended: { 1 ≤ length (held signs) },
 }
 
 impl LineText {
+    ghost use Rattle.frames.specs.Hexadecimal.{text_digits, text_line};
+
     // The digits alone.
     pub fn digits(&self) -> &[u8]
         ensures value { result.now ≡ text_digits self.now }
         ensures short { length result.now ≤ 128 }
     {
-        match self.signs.as_slice().split_last() {
-            Some((_newline, digits)) => digits,
-            None => &[],
-        }
+        let line = self.line();
+        &line[..line.len() - 1]
     }
 
     // The digits and the newline, ready to be printed.

@@ -32,7 +32,8 @@ impl<T: Copy + Default, const N: usize> Room<T, N> {
 }
 
 impl<T: Copy, const N: usize> Room<T, N> {
-    ghost use Rattle.std.specs.Prelude.{◌≡◌, [], ◌∷◌, length};
+    ghost use Rattle.std.specs.Prelude.{◌≡◌, ◌<◌, ◌↔◌, [], ◌∷◌, ◌++◌, length, IsSome};
+    ghost use Rattle.std.specs.Option.{option_to_list};
     ghost use Rattle.rooms.specs.Held.{held, LetsIn};
 
     pub fn as_slice(&self) -> &[T]
@@ -52,6 +53,16 @@ impl<T: Copy, const N: usize> Room<T, N> {
         self.places[self.len] = item;
         self.len += 1;
         Ok(())
+    }
+
+    // Takes out the last item, if there is one.
+    pub fn pop(&mut self) -> Option<T>
+        ensures items { held self.old ≡ held self.new ++ option_to_list result }
+        ensures variant { IsSome result ↔ (0 < length (held self.old)) }
+    {
+        let at = self.len.checked_sub(1)?;
+        self.len = at;
+        Some(self.places[at])
     }
 
     // All of these items, behind the others, or none of them.
