@@ -2,6 +2,7 @@
 use Rattle.std.specs.Prelude.{ℕ, zero, suc, ◌+◌, Bool, true, false, cond, List, [], ◌∷◌, ◌++◌, length, Some, None, Option, nat_lt, slice_index_or}
 use Rattle.std.specs.declared.ops.ControlFlow.{ControlFlow}
 use Rattle.std.specs.declared.ops.ControlFlow.TheVariants.{Continue, Break}
+use Rattle.rooms.specs.Held.{held}
 use Rattle.terms.specs.declared.Record.{Record}
 use Rattle.terms.specs.declared.Station.{Station}
 use Rattle.terms.specs.declared.Slot.{Slot}
@@ -18,8 +19,10 @@ use Rattle.work.specs.declared.work.Reached.{Reached}
 use Rattle.work.specs.declared.work.Point.{Point}
 use Rattle.work.specs.declared.work.Point.TheVariants.{End, Take, Look, LookAgain, Verify, Swap, Save, Overwrite, AskDeleted, AskPlace, AskDone, AskPlaceAgain, CountFirst, CountAgain, AskSlot, CountSecond, AskTrace, AskClaims, AskLink, Give}
 use Rattle.work.specs.declared.work.Owed.{Owed}
+use Rattle.work.specs.declared.work.Owed.TheVariants.{Nothing, One, Two, Three, Four, Five}
 use Rattle.work.specs.declared.work.Work.{Work}
 use Rattle.work.specs.declared.known.Known.{Known}
+use Rattle.work.specs.declared.notes.Entries.{Entries}
 use Rattle.work.specs.declared.notes.Seen.{Seen}
 use Rattle.work.specs.declared.notes.Notes as code
 use Rattle.work.specs.declared.notes.Note.{Note}
@@ -47,14 +50,13 @@ pub record Plan : Type 0 where
 abbrev pub plan : List Write → Point → Plan
 plan ws p = record { owed = ws; point = p }
 
--- the writes that are there, in order
-abbrev pub present : List (Option Write) → List Write
-present [] = []
-present (None ∷ os) = present os
-present (Some w ∷ os) = w ∷ present os
-
 abbrev pub writes : Owed → List Write
-writes o = present o.writes
+writes Nothing = []
+writes (One a) = a ∷ []
+writes (Two a b) = a ∷ b ∷ []
+writes (Three a b c) = a ∷ b ∷ c ∷ []
+writes (Four a b c d) = a ∷ b ∷ c ∷ d ∷ []
+writes (Five a b c d e) = a ∷ b ∷ c ∷ d ∷ e ∷ []
 
 -- the write that is made next, and those after it
 abbrev pub first_write : List Write → Option Write
@@ -119,11 +121,14 @@ pub record Notes : Type 0 where
   pub kept : List Entry
   pub seen : ℕ → Bool
 
+abbrev pub entries_of : Entries → List Entry
+entries_of l = held l.entries
+
 abbrev pub seen_of : Seen → ℕ → Bool
 seen_of s = reads false s.marks
 
 abbrev pub notes_of : code.Notes → Notes
-notes_of n = record { list = n.list; kept = n.kept; seen = seen_of n.seen }
+notes_of n = record { list = entries_of n.list; kept = entries_of n.kept; seen = seen_of n.seen }
 
 -- a new station's: nothing
 abbrev pub no_notes : Notes

@@ -47,7 +47,7 @@ fn looked(spot: Spot, slot: Slot, name: Name, then: AfterLook) -> Work
     ensures { plan_of result ≡ looked_of spot slot name then }
 {
     Work {
-        owed: Owed::one(Write::FillSlot(slot, name)),
+        owed: Owed::One(Write::FillSlot(slot, name)),
         point: Point::Verify(spot, slot, name, then),
     }
 }
@@ -156,8 +156,8 @@ impl Work {
     fn settle(self) -> ControlFlow<Outcome, Work>
         ensures { going_of result ≡ settle (plan_of self) }
     {
-        match (self.owed.first(), self.point) {
-            (None, Point::End(outcome)) => ControlFlow::Break(outcome),
+        match (self.owed, self.point) {
+            (Owed::Nothing, Point::End(outcome)) => ControlFlow::Break(outcome),
             _ => ControlFlow::Continue(self),
         }
     }
@@ -174,12 +174,16 @@ impl Work {
         ensures notes { notes_of notes.new ≡ notes_after (plan_of self) found (sight_of sight.now) (notes_of notes.old) }
     {
         let Work { owed, point } = self;
-        if owed.first().is_some() {
-            let owed = owed.paid();
-            return Work { owed, point }.settle();
+        match owed {
+            Owed::Nothing => {
+                let turn = Known { sight, notes }.decide(point, found);
+                notes.note(turn.note);
+                turn.work.settle()
+            }
+            _ => {
+                let owed = owed.paid();
+                Work { owed, point }.settle()
+            }
         }
-        let turn = Known { sight, notes }.decide(point, found);
-        notes.note(turn.note);
-        turn.work.settle()
     }
 }

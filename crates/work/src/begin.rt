@@ -46,7 +46,7 @@ impl Work {
             Operation::New => Work::only(Point::Take),
             Operation::Deref(spot) => Work::only(Point::Look(spot, AfterLook::Answer)),
             Operation::Release(r) => Work {
-                owed: Owed::one(Write::Release(r)),
+                owed: Owed::One(Write::Release(r)),
                 point: Point::End(Outcome::Done),
             },
             Operation::Cas(spot, old, new) => Work::only(Point::Swap(

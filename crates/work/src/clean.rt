@@ -14,7 +14,7 @@ impl Work {
         ensures { plan_of result ≡ plan [] point }
     {
         Work {
-            owed: Owed::nothing(),
+            owed: Owed::Nothing,
             point,
         }
     }
@@ -140,7 +140,7 @@ impl Known<'_> {
             Work::only(self.next_place(station, place))
         } else {
             Work {
-                owed: Owed::one(Write::AddClaim(station, place)),
+                owed: Owed::One(Write::AddClaim(station, place)),
                 point: Point::AskPlaceAgain(station, place, r),
             }
         }
@@ -154,7 +154,7 @@ impl Known<'_> {
             Work::only(clean(r, FIRST, Round::All(station, place)))
         } else {
             Work {
-                owed: Owed::one(Write::DropClaim(station, place)),
+                owed: Owed::One(Write::DropClaim(station, place)),
                 point: self.next_place(station, place),
             }
         }

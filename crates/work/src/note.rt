@@ -1,15 +1,14 @@
 // A station's notes, and a change of them.
 ghost use Rattle.std.specs.Prelude.{◌≡◌, ◌≤◌, length};
-ghost use Rattle.work.specs.Plans.{notes_of, kept_too, with_note, noted, no_notes};
+ghost use Rattle.work.specs.Plans.{entries_of, notes_of, kept_too, with_note, noted, no_notes};
 
 use crate::notes::*;
 use crate::work::Entry;
-use std::mem;
 
 impl Entries {
     // The entry, if there is one, becomes the head.
     fn push_if(&mut self, entry: Option<Entry>)
-        ensures { self.new ≡ kept_too self.old entry }
+        ensures { entries_of self.new ≡ kept_too (entries_of self.old) entry }
     {
         if let Some(entry) = entry {
             self.push(entry);
@@ -41,8 +40,9 @@ impl Notes {
     fn close(&mut self, last: Option<Entry>)
         ensures { notes_of self.new ≡ with_note (notes_of self.old) (Note.Close last) }
     {
-        self.list = mem::replace(&mut self.kept, Entries::empty());
+        self.list = self.kept;
         self.list.push_if(last);
+        self.kept = Entries::empty();
         self.seen = Seen::empty();
     }
 

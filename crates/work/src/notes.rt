@@ -1,7 +1,6 @@
 // What a station keeps for itself: its list, and what a SCAN collects.
 use crate::work::Entry;
-use arrayvec::ArrayVec;
-use std::marker::Model;
+use rooms::Room;
 use terms::Name;
 
 pub const ENTRIES: usize = 64;
@@ -9,20 +8,9 @@ pub const ENTRIES: usize = 64;
 pub const SEEN: usize = 128;
 
 // Entries in the order in which they came; the last is the head of the list.
-#[derive(Clone, Drop)]
+#[derive(Clone, Copy)]
 pub struct Entries {
-    pub(crate) entries: ArrayVec<Entry, ENTRIES>,
-}
-
-impl Model for Entries {
-    ghost use Rattle.std.specs.Prelude.{List, length, ◌≤◌};
-    ghost use Rattle.work.specs.declared.work.Entry.{Entry as Item};
-
-    ghost Value = { List Item };
-
-    ghost view = { λ e. e.entries.items };
-
-    ghost invariant = { λ e. length e.entries.items ≤ 64 };
+    pub(crate) entries: Room<Entry, ENTRIES>,
 }
 
 // The records that a SCAN saw in slots.
@@ -31,7 +19,7 @@ pub struct Seen {
     pub(crate) marks: [bool; SEEN],
 }
 
-#[derive(Clone, Drop)]
+#[derive(Clone, Copy)]
 pub struct Notes {
     // The records withdrawn and not given back yet.
     pub(crate) list: Entries,

@@ -1,12 +1,12 @@
 // Small parts of a station's private work: names, numbers, and its notes.
 ghost use Rattle.std.specs.Prelude.{◌≡◌, ℕ, Bool, false, [], length, None};
 ghost use Rattle.terms.specs.Words.{reads, lowest, is_none};
-ghost use Rattle.work.specs.Plans.{seen_of, pushed, saw, reached, head_of, free_slot, next_position, after_in_rows, sight_of, position};
+ghost use Rattle.work.specs.Plans.{entries_of, seen_of, pushed, saw, reached, head_of, free_slot, next_position, after_in_rows, sight_of, position};
 
 use crate::notes::*;
 use crate::sight::Sight;
 use crate::work::{Entry, Reached};
-use arrayvec::ArrayVec;
+use rooms::Room;
 use terms::tables::*;
 use terms::{Name, Position, Record, Slot, Station};
 
@@ -74,37 +74,37 @@ impl Sight {
 
 impl Entries {
     pub(crate) fn empty() -> Entries
-        ensures { result ≡ [] }
+        ensures { entries_of result ≡ [] }
     {
         Entries {
-            entries: ArrayVec::new(),
+            entries: Room::new(),
         }
     }
 
     // One entry more, which is the head now. A full list stays as it is.
     pub(crate) fn push(&mut self, entry: Entry)
-        ensures { self.new ≡ pushed self.old entry }
+        ensures { entries_of self.new ≡ pushed (entries_of self.old) entry }
     {
-        let _ = self.entries.try_push(entry);
+        let _ = self.entries.push(entry);
     }
 
     pub(crate) fn count(&self) -> u8
-        ensures { result ≡ length self.now }
+        ensures { result ≡ length (entries_of self.now) }
     {
-        self.entries.len() as u8
+        self.entries.as_slice().len() as u8
     }
 
     // The entry that a walk from the head comes to where so many are left.
     pub(crate) fn reach(&self, left: u8) -> Option<Reached>
-        ensures { result ≡ reached self.now left }
+        ensures { result ≡ reached (entries_of self.now) left }
     {
         let left = left.checked_sub(1)?;
-        let entry = self.entries.get(left as usize).copied()?;
+        let entry = self.entries.as_slice().get(left as usize).copied()?;
         Some(Reached { entry, left })
     }
 
     pub(crate) fn head(&self) -> Option<Reached>
-        ensures { result ≡ head_of self.now }
+        ensures { result ≡ head_of (entries_of self.now) }
     {
         self.reach(self.count())
     }

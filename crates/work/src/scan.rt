@@ -99,11 +99,11 @@ impl Known<'_> {
     {
         if zero {
             Work {
-                owed: Owed::one(Write::SetTrace(e.entry.node)),
+                owed: Owed::One(Write::SetTrace(e.entry.node)),
                 point: Point::CountAgain(e),
             }
         } else {
-            self.first_next(Owed::nothing(), e)
+            self.first_next(Owed::Nothing, e)
         }
     }
 
@@ -112,9 +112,9 @@ impl Known<'_> {
         ensures { plan_of result ≡ counted_again e zero (noted_by self.now) }
     {
         if zero {
-            self.first_next(Owed::nothing(), e)
+            self.first_next(Owed::Nothing, e)
         } else {
-            self.first_next(Owed::one(Write::ClearTraceOfListed(e.entry.node)), e)
+            self.first_next(Owed::One(Write::ClearTraceOfListed(e.entry.node)), e)
         }
     }
 
@@ -172,7 +172,7 @@ impl Known<'_> {
         if zero {
             Turn::quiet(Work::only(Point::AskTrace(e)))
         } else {
-            self.second_next(Owed::nothing(), e, Some(e.entry))
+            self.second_next(Owed::Nothing, e, Some(e.entry))
         }
     }
 
@@ -182,11 +182,11 @@ impl Known<'_> {
     {
         if mark && !self.notes.seen.has(e.entry.node) {
             Turn::quiet(Work {
-                owed: Owed::one(Write::EmptyPlace(e.entry.place)),
+                owed: Owed::One(Write::EmptyPlace(e.entry.place)),
                 point: Point::AskClaims(e),
             })
         } else {
-            self.second_next(Owed::nothing(), e, Some(e.entry))
+            self.second_next(Owed::Nothing, e, Some(e.entry))
         }
     }
 
@@ -210,6 +210,6 @@ impl Known<'_> {
     pub(crate) fn given(&self, e: Reached) -> Turn
         ensures { turn_of result ≡ second_next [] e None (seen_by self.now) (noted_by self.now) }
     {
-        self.second_next(Owed::nothing(), e, None)
+        self.second_next(Owed::Nothing, e, None)
     }
 }

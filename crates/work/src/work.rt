@@ -104,14 +104,16 @@ pub enum Point {
     Give(Reached),
 }
 
-// The most writes that are owed at once.
-pub const MOST_OWED: usize = 5;
-
-// The writes that are owed, in their order; none stands where there is none to make.
-// Kept an array and no `ArrayVec`: work is a copy type, and a write has no default.
+// The writes that are owed, in their order.
+// Kept an enum of so many: an array of options has many forms of the same writes, and each turn looks for the first of them.
 #[derive(Clone, Copy)]
-pub struct Owed {
-    pub writes: [Option<Write>; MOST_OWED],
+pub enum Owed {
+    Nothing,
+    One(Write),
+    Two(Write, Write),
+    Three(Write, Write, Write),
+    Four(Write, Write, Write, Write),
+    Five(Write, Write, Write, Write, Write),
 }
 
 #[derive(Clone, Copy)]
