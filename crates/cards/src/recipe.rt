@@ -45,7 +45,8 @@ impl Recipe {
     pub fn amounts(&self) -> [u16; COLORANTS]
         ensures value { result ≡ self.now.amounts }
     {
-        self.amounts
+        let Recipe { amounts } = *self;
+        amounts
     }
 
     // The amount of one colorant, counted from 0.
