@@ -8,6 +8,7 @@ pub mod Shelves
 pub mod Slips
 pub mod Theorems
 pub mod RecipeLaws
+pub mod RecipeTurns
 pub mod Laws
 pub mod Truths
 pub mod Numbers

@@ -2,14 +2,14 @@
 ghost use Rattle.std.specs.Prelude.{◌≡◌, ◌≤◌, length, take};
 ghost use Rattle.cards.specs.CardBytes.{held};
 
-use arrayvec::ArrayVec;
+use rooms::Room;
 
 // No kind has more bytes than this: a line has at most 64, and three stand before its card.
 pub const MOST_BYTES: usize = 61;
 
-#[derive(Clone, PartialEq, Eq, Debug, Drop)]
+#[derive(Clone, Copy, PartialEq, Eq, Debug)]
 pub struct CardBytes {
-    bytes: ArrayVec<u8, MOST_BYTES>,
+    bytes: Room<u8, MOST_BYTES>,
 }
 
 impl CardBytes {
@@ -18,8 +18,8 @@ impl CardBytes {
         ensures value { held result ≡ take 61 bytes.now }
     {
         let kept = &bytes[..MOST_BYTES.min(bytes.len())];
-        let mut bytes = ArrayVec::new();
-        bytes.try_extend_from_slice(kept).unwrap();
+        let mut bytes = Room::new();
+        bytes.extend_from_slice(kept).unwrap();
         CardBytes { bytes }
     }
 

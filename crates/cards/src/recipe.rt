@@ -1,6 +1,6 @@
 // The recipe: what to pour into a can.
 ghost use Rattle.std.specs.Prelude.{◌≡◌, ◌≤◌, T, MatchOption, position, nat_lt};
-ghost use Rattle.cards.specs.Fields.{within};
+ghost use Rattle.cards.specs.Fields.{within, bytes_of};
 ghost use Rattle.cards.specs.Layouts.{most_amount, recipe_fields};
 
 use crate::{Card, CardBytes, CardFault};
@@ -28,6 +28,13 @@ fn first_too_large(amounts: &[u16]) -> Option<usize>
     amounts.iter().position(|amount| *amount > MOST_AMOUNT)
 }
 
+// The two bytes of an amount, the more significant one first.
+fn amount_bytes(amount: u16) -> [u8; 2]
+    ensures { result ≡ bytes_of 2 amount }
+{
+    amount.to_be_bytes()
+}
+
 impl Recipe {
     ghost use Rattle.cards.specs.Recipes.{recipe_of, amount_at};
 
@@ -45,7 +52,8 @@ impl Recipe {
     pub fn amounts(&self) -> [u16; COLORANTS]
         ensures value { result ≡ self.now.amounts }
     {
-        self.amounts
+        let Recipe { amounts } = *self;
+        amounts
     }
 
     // The amount of one colorant, counted from 0.
@@ -92,6 +100,6 @@ impl Card for Recipe {
     }
 
     fn write(&self) -> CardBytes {
-        CardBytes::of(self.amounts.map(u16::to_be_bytes).as_flattened())
+        CardBytes::of(self.amounts.map(amount_bytes).as_flattened())
     }
 }
