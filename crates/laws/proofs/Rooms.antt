@@ -57,6 +57,12 @@ module _ {each : ℕ} {slot : Names} where
       let d = not_empty i k r e h in
       (i, k, (λ y. d (sym y)), empty_on k i None (λ y. d (sym y)) e, record { below = l; none = upd_same slot k None k refl })
 
+  pub rooms_on : (k : ℕ) → TwoRooms each slot → TwoRooms each (upd slot k None)
+  rooms_on k (i, j, d, e, f) = (i, j, d, still i e, still j f)
+    where
+      still : (i : ℕ) → Empty each slot i → Empty each (upd slot k None) i
+      still i e = record { below = e.below; none = elim (cases_eq k i) [ inl y ↦ upd_same slot k None i y | inr n ↦ upd_other slot k None i n ∙ e.none ] }
+
   pub room_on : (k : ℕ) → Room each slot → Room each (upd slot k None)
   room_on k (i, e) = (i, record { below = e.below; none = elim (cases_eq k i) [ inl y ↦ upd_same slot k None i y | inr n ↦ upd_other slot k None i n ∙ e.none ] })
 

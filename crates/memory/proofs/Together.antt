@@ -1,7 +1,5 @@
 -- Words that are written together are each of them written, and one word that differs from what stands there is that word written.
-use Rattle.std.proofs.Common.{◌≡◌, ℕ, ℤ, Bool, true, false, cond, ◌==◌, ◌&&◌, nat_lt, refl, sym, ap, ◌∙◌, inl, inr, ◌<◌, length, get_or, arith, None, Option, List}
-use Rattle.std.proofs.lemmas.Bool.{cases_lt}
-use Rattle.std.proofs.lemmas.List.{get_or_past}
+use Rattle.std.proofs.Common.{◌≡◌, ℕ, ℤ, Bool, true, false, cond, ◌==◌, ◌&&◌, nat_lt, refl, ap, ◌∙◌, inl, inr, None, Option, List}
 use mathlib.Core.Path.{fun_ext}
 use Rattle.terms.specs.declared.Record.{Record}
 use Rattle.terms.specs.Words.{reads, cells, put, put_in}
@@ -9,7 +7,7 @@ use Rattle.terms.proofs.Puts.{put_tells, reads_replicate}
 use Rattle.memory.specs.declared.memory.Memory.{Memory}
 use Rattle.memory.specs.declared.memory.RecordWords.{RecordWords}
 use Rattle.memory.specs.declared.memory.PlaceWords.{PlaceWords}
-use Rattle.memory.specs.Shared.{Shared, view, blank, blank_record, blank_place, record_words, place_words, set_record_words, set_place_words, set_count, set_trace, set_deleted, set_link, set_place, set_done, set_claims}
+use Rattle.memory.specs.Shared.{Shared, view, blank, blank_record, blank_place, record_words, place_words, set_record_words, set_place_words, set_count, set_trace, set_deleted, set_link, set_done, set_claims}
 
 -- A part of what is written is that part written.
 pub put_map : {A B : Type 0} (g : A → B) (n : ℕ) (f : ℕ → A) (i : ℕ) (v : A) → ◌≡◌ {A = ℕ → B} (λ j. g (put n f i v j)) (put n (λ j. g (f j)) i (g v))
@@ -54,7 +52,7 @@ over_records s h = record {
 -- The words of a record written at once.
 pub record_words_put : (m : Memory) (n r : ℕ) (w : RecordWords) (words : List RecordWords) → n ≡ 128 →
     ◌≡◌ {A = ℕ → RecordWords} (reads blank_record words) (put n (record_words m) r w) →
-    view (record { roots = m.roots; records = words; slots = m.slots; places = m.places }) ≡ set_record_words (view m) r w
+    view (record { roots = m.roots; records = words; slots = m.slots; nodes = m.nodes; places = m.places }) ≡ set_record_words (view m) r w
 record_words_put m n r w words k e =
     let h : ℕ → RecordWords = record_words m in
     let a = ap (over_records (view m)) e in
@@ -110,7 +108,7 @@ over_places s h = record {
   traces = s.traces;
   deleteds = s.deleteds;
   slots = s.slots;
-  places = λ p i. (h p i).node;
+  places = s.places;
   dones = λ p i. (h p i).done;
   claims = λ p i. (h p i).claims;
 }
@@ -118,54 +116,35 @@ over_places s h = record {
 -- The words of a place written at once.
 pub place_words_put : (m : Memory) (n p i : ℕ) (w : PlaceWords) (words : List (List PlaceWords)) → n ≡ 8 →
     ◌≡◌ {A = ℕ → ℕ → PlaceWords} (cells blank_place words) (put_in n 64 (place_words m) p i w) →
-    view (record { roots = m.roots; records = m.records; slots = m.slots; places = words }) ≡ set_place_words (view m) p i w
+    view (record { roots = m.roots; records = m.records; slots = m.slots; nodes = m.nodes; places = words }) ≡ set_place_words (view m) p i w
 place_words_put m n p i w words k e =
     let h : ℕ → ℕ → PlaceWords = place_words m in
     let a = ap (over_places (view m)) e in
-    let places = put_in_map (λ x. x.node) 8 64 h p i w in
     let dones = put_in_map (λ x. x.done) 8 64 h p i w in
     let claims = put_in_map (λ x. x.claims) 8 64 h p i w in
     rw k at a ∙ (cc)
 
 -- One of them written.
-pub place_put : (m : Memory) (p i : ℕ) (w : PlaceWords) (v : Option Record) → w ≡ place_words m p i →
-    set_place_words (view m) p i (record { node = v; done = w.done; claims = w.claims }) ≡ set_place (view m) p i v
-place_put m p i w v e = rw e
-    (let dones = put_in_kept 8 64 (view m).dones p i in
-    let claims = put_in_kept 8 64 (view m).claims p i in
-    cc)
-
 pub done_put : (m : Memory) (p i : ℕ) (w : PlaceWords) (b : Bool) → w ≡ place_words m p i →
-    set_place_words (view m) p i (record { node = w.node; done = b; claims = w.claims }) ≡ set_done (view m) p i b
+    set_place_words (view m) p i (record { done = b; claims = w.claims }) ≡ set_done (view m) p i b
 done_put m p i w b e = rw e
-    (let places = put_in_kept 8 64 (view m).places p i in
-    let claims = put_in_kept 8 64 (view m).claims p i in
+    (let claims = put_in_kept 8 64 (view m).claims p i in
     cc)
 
 pub claims_put : (m : Memory) (p i : ℕ) (w : PlaceWords) (n : ℕ) → w ≡ place_words m p i →
-    set_place_words (view m) p i (record { node = w.node; done = w.done; claims = n }) ≡ set_claims (view m) p i n
+    set_place_words (view m) p i (record { done = w.done; claims = n }) ≡ set_claims (view m) p i n
 claims_put m p i w n e = rw e
-    (let places = put_in_kept 8 64 (view m).places p i in
-    let dones = put_in_kept 8 64 (view m).dones p i in
+    (let dones = put_in_kept 8 64 (view m).dones p i in
     cc)
 
--- What the places of a row name.
-pub places_named : (m : Memory) (p : ℕ) (row : List PlaceWords) (names : List (Option Record)) → length row ≡ 64 → length names ≡ 64 →
-    ◌≡◌ {A = ℕ → PlaceWords} (reads blank_place row) (place_words m p) → ((i : ℕ) → i < 64 → get_or names i None ≡ (get_or row i blank_place).node) →
-    ◌≡◌ {A = ℕ → Option Record} (reads None names) ((view m).places p)
-unfolding reads
-places_named m p row names w n e each = fun_ext (λ i. elim (cases_lt i 64) [
-  | inl h ↦ each i h
-  | inr h ↦ get_or_past names i None (omega arith) ∙ sym (ap (λ x. x.node) (get_or_past row i blank_place (omega arith)))
-]) ∙ ap {B = ℕ → Option Record} (λ (h : ℕ → PlaceWords) i. (h i).node) e
-
 -- A memory whose words are all blank.
-pub all_blank : (roots : List (Option Record)) (records : List RecordWords) (slots : List (List (Option Record))) (places : List (List PlaceWords)) →
+pub all_blank : (roots : List (Option Record)) (records : List RecordWords) (slots nodes : List (List (Option Record))) (places : List (List PlaceWords)) →
     ◌≡◌ {A = ℕ → Option Record} (reads None roots) (λ _. None) → ◌≡◌ {A = ℕ → RecordWords} (reads blank_record records) (λ _. blank_record) →
-    ◌≡◌ {A = ℕ → ℕ → Option Record} (cells None slots) (λ _ _. None) → ◌≡◌ {A = ℕ → ℕ → PlaceWords} (cells blank_place places) (λ _ _. blank_place) →
-    view (record { roots = roots; records = records; slots = slots; places = places }) ≡ blank
-all_blank roots records slots places a b c d =
-    let s = view (record { roots = roots; records = records; slots = slots; places = places }) in
-    ap (over_records s) b ∙ ap (over_places (over_records s (λ _. blank_record))) d ∙ simp (a, c, reads_replicate)
+    ◌≡◌ {A = ℕ → ℕ → Option Record} (cells None slots) (λ _ _. None) → ◌≡◌ {A = ℕ → ℕ → Option Record} (cells None nodes) (λ _ _. None) →
+    ◌≡◌ {A = ℕ → ℕ → PlaceWords} (cells blank_place places) (λ _ _. blank_place) →
+    view (record { roots = roots; records = records; slots = slots; nodes = nodes; places = places }) ≡ blank
+all_blank roots records slots nodes places a b c e d =
+    let s = view (record { roots = roots; records = records; slots = slots; nodes = nodes; places = places }) in
+    ap (over_records s) b ∙ ap (over_places (over_records s (λ _. blank_record))) d ∙ simp (a, c, e, reads_replicate)
 
-pub ruleset one_word_put = (count_put, trace_put, deleted_put, place_put, done_put, claims_put)
+pub ruleset one_word_put = (count_put, trace_put, deleted_put, done_put, claims_put)

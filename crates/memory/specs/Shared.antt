@@ -25,12 +25,12 @@ pub record Shared : Type 0 where
   pub dones : ℕ → ℕ → Bool
   pub claims : ℕ → ℕ → ℕ
 
--- words of a record that are all none, zero and clear, and such words of a place
+-- words of a record that are all none, zero and clear, and such words of a place, which are all but what it names
 abbrev pub blank_record : RecordWords
 blank_record = record { count = pos 0; trace = false; deleted = false; links = replicate 4 None }
 
 abbrev pub blank_place : PlaceWords
-blank_place = record { node = None; done = false; claims = 0 }
+blank_place = record { done = false; claims = 0 }
 
 -- what a memory holds of each record, and of each place of each station
 abbrev pub record_words : Memory → ℕ → RecordWords
@@ -48,7 +48,7 @@ view m = record {
   traces = λ r. (record_words m r).trace;
   deleteds = λ r. (record_words m r).deleted;
   slots = cells None m.slots;
-  places = λ p i. (place_words m p i).node;
+  places = cells None m.nodes;
   dones = λ p i. (place_words m p i).done;
   claims = λ p i. (place_words m p i).claims;
 }
@@ -124,7 +124,7 @@ set_done s p i b = with_dones s (put_in 8 64 s.dones p i b)
 abbrev pub set_claims : Shared → ℕ → ℕ → ℕ → Shared
 set_claims s p i n = with_claims s (put_in 8 64 s.claims p i n)
 
--- all words of a record written at once, and all words of a place
+-- all words of a record written at once, and all words of a place but what it names
 abbrev pub set_record_words : Shared → ℕ → RecordWords → Shared
 set_record_words s r w = record {
   roots = s.roots;
@@ -146,7 +146,7 @@ set_place_words s p i w = record {
   traces = s.traces;
   deleteds = s.deleteds;
   slots = s.slots;
-  places = put_in 8 64 s.places p i w.node;
+  places = s.places;
   dones = put_in 8 64 s.dones p i w.done;
   claims = put_in 8 64 s.claims p i w.claims;
 }

@@ -32,17 +32,15 @@ impl RecordWords {
     };
 }
 
-// The words of a place, where a station lists a record.
+// The words of a place, where a station lists a record, but for what it names.
 #[derive(Clone, Copy)]
 pub(crate) struct PlaceWords {
-    pub(crate) node: Name,
     pub(crate) done: bool,
     pub(crate) claims: u8,
 }
 
 impl PlaceWords {
     pub(crate) const BLANK: PlaceWords = PlaceWords {
-        node: None,
         done: false,
         claims: 0,
     };
@@ -55,5 +53,8 @@ pub struct Memory {
     pub(crate) records: [RecordWords; RECORDS],
     // Slots and places stay two tables: a row of either is read by one call, and a struct of both would be taken apart at each.
     pub(crate) slots: [[Name; SLOTS]; STATIONS],
+    // What the places name stays a table beside their other words: a station reads its row whole when it begins an operation,
+    // and gathered out of the other words that took eight times as long.
+    pub(crate) nodes: [[Name; PLACES]; STATIONS],
     pub(crate) places: [[PlaceWords; PLACES]; STATIONS],
 }

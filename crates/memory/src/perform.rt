@@ -78,17 +78,9 @@ impl Memory {
                 place,
                 |words| words.done = false,
             ),
-            Write::FillPlace(place, r) => self.update_place(
-                station,
-                place,
-                |words| words.node = Some(r),
-            ),
+            Write::FillPlace(place, r) => self.set_node(station, place, Some(r)),
             Write::SetTrace(r) => self.update_record(r, |words| words.trace = true),
-            Write::EmptyPlace(place) => self.update_place(
-                station,
-                place,
-                |words| words.node = None,
-            ),
+            Write::EmptyPlace(place) => self.set_node(station, place, None),
             Write::SetDone(place) => self.update_place(station, place, |words| words.done = true),
             Write::AddClaim(lister, place) => self.update_place(lister, place, |words| {
                 words.claims = words.claims.saturating_add(1);
@@ -112,9 +104,7 @@ impl Memory {
                 Found::Nothing
             }
             WordAccess::AskDeleted(r) => Found::Flag(self.record_words(r).deleted),
-            WordAccess::AskPlace(lister, place) => {
-                Found::Name(self.place_words(lister, place).node)
-            }
+            WordAccess::AskPlace(lister, place) => Found::Name(self.node(lister, place)),
             WordAccess::AskDone(lister, place) => Found::Flag(self.place_words(lister, place).done),
             WordAccess::AskCount(r) => Found::Number(self.record_words(r).count),
             WordAccess::AskSlot(holder, slot) => Found::Name(self.slot(holder, slot)),
@@ -140,7 +130,7 @@ impl Memory {
     pub fn own_places(&self, station: Station) -> [Name; PLACES]
         ensures { reads None result ≡ (view self.now).places station.number }
     {
-        row(&self.places, station.number, PlaceWords::BLANK).map(|words| words.node)
+        row(&self.nodes, station.number, None)
     }
 
     // All none, zero and clear.
@@ -152,6 +142,7 @@ impl Memory {
             roots: filled(None),
             records: filled(RecordWords::BLANK),
             slots: rows_filled(None),
+            nodes: rows_filled(None),
             places: rows_filled(PlaceWords::BLANK),
         }
     }

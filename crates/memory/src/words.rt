@@ -5,7 +5,7 @@ ghost use Rattle.std.specs.Prelude.{◌≡◌};
 ghost use Rattle.std.specs.Fn.{FnOnceReturnsAtMut};
 ghost use Rattle.memory.specs.declared.memory.RecordWords.{RecordWords as WordsOfRecord};
 ghost use Rattle.memory.specs.declared.memory.PlaceWords.{PlaceWords as WordsOfPlace};
-ghost use Rattle.memory.specs.Shared.{view, record_words, place_words, set_record_words, set_place_words, set_slot};
+ghost use Rattle.memory.specs.Shared.{view, record_words, place_words, set_record_words, set_place_words, set_slot, set_place};
 
 use crate::memory::*;
 use terms::tables::*;
@@ -37,6 +37,18 @@ impl Memory {
         ensures { view self.new ≡ set_slot (view self.old) station.number slot.index name }
     {
         set_cell(&mut self.slots, station.number, slot.index, name);
+    }
+
+    pub(crate) fn node(&self, station: Station, place: Place) -> Name
+        ensures { result ≡ (view self.now).places station.number place.index }
+    {
+        cell(&self.nodes, station.number, place.index, None)
+    }
+
+    pub(crate) fn set_node(&mut self, station: Station, place: Place, name: Name)
+        ensures { view self.new ≡ set_place (view self.old) station.number place.index name }
+    {
+        set_cell(&mut self.nodes, station.number, place.index, name);
     }
 
     pub(crate) fn place_words(&self, station: Station, place: Place) -> PlaceWords

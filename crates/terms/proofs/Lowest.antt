@@ -3,6 +3,19 @@ use Rattle.std.proofs.Common.{◌≡◌, ℕ, zero, suc, ◌+◌, ◌<◌, ◌�
 use Rattle.std.proofs.lemmas.Bool.{cases_eq, cases_order, true≢false}
 use Rattle.terms.specs.Words.{first_from, lowest}
 
+-- Where i does not pass, the search goes on behind it.
+pub from_on : (test : ℕ → Bool) (i n : ℕ) → test i ≡ false → first_from test i (suc n) ≡ first_from test (suc i) n
+unfolding first_from
+from_on test i n e = rw e refl
+
+pub from_here : (test : ℕ → Bool) (i n : ℕ) → test i ≡ true → first_from test i (suc n) ≡ i
+unfolding first_from
+from_here test i n e = rw e refl
+
+pub from_end : (test : ℕ → Bool) (i : ℕ) → first_from test i 0 ≡ i
+unfolding first_from
+from_end test i = refl
+
 -- The first from i on: it lies from i to i + n, nothing before it passes, and it passes unless it is i + n.
 abbrev pub First : (ℕ → Bool) → ℕ → ℕ → ℕ → Type 0
 First test i n k = (i ≤ k) × (k ≤ i + n) × ((j : ℕ) → i ≤ j → j < k → test j ≡ false) × (k < i + n → test k ≡ true)

@@ -39,7 +39,10 @@ pub fn set_cell<T: Copy, const W: usize>(rows: &mut [[T; W]], i: u8, x: u8, v: T
 pub fn row<T: Copy, const W: usize>(rows: &[[T; W]], i: u8, default: T) -> [T; W]
     ensures { ◌≡◌ {A = ℕ → T} (reads default result) (cells default rows.now i) }
 {
-    word(rows, i, [default; W])
+    match rows.get(i as usize) {
+        Some(row) => *row,
+        None => [default; W],
+    }
 }
 
 // As many of one value as there are.
