@@ -26,6 +26,6 @@ impl Layout for Chain {
     }
 
     fn follow(x: u8) -> Option<u8> {
-        (x < POSITIONS).then_some(NEXT)
+        (x == NEXT).then_some(NEXT)
     }
 }

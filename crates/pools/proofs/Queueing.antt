@@ -1,15 +1,15 @@
 -- The order of a ring as items are written and taken. Assumes nothing.
-use Rattle.std.proofs.Common.{◌≡◌, ℕ, zero, suc, false, ◌+◌, ◌<◌, ◌≤◌, List, [], ◌∷◌, ◌++◌, length, get_or, set, sym, refl, ap, ◌∙◌, add-one, arith, get_or-set_other, get_or-set_same}
+use Rattle.std.proofs.Common.{◌≡◌, ℕ, zero, suc, false, ◌+◌, ◌-◌, ◌<◌, ◌≤◌, List, [], ◌∷◌, ◌++◌, length, get_or, set, sym, refl, ap, ◌∙◌, add-one, arith, get_or-set_other, get_or-set_same}
 use Rattle.std.proofs.lemmas.Bool.{cond-false}
 use Rattle.std.proofs.lemmas.Bool.Decides.{nat_tests}
 use Rattle.std.specs.List.{range_with_len}
 use Rattle.pools.specs.Orders.{listed, put_last, queued, wrapped}
 
-length_queued : (items : List ℕ) (h n : ℕ) → length (queued items h n) ≡ n
+pub length_queued : (items : List ℕ) (h n : ℕ) → length (queued items h n) ≡ n
 length_queued items h zero = refl
 length_queued items h (suc n) = ap suc (length_queued items (wrapped (h + 1)) n)
 
-wrapped_in : (h : ℕ) → h < 256 → wrapped h < 128
+pub wrapped_in : (h : ℕ) → h < 256 → wrapped h < 128
 wrapped_in h l = grind (arith, nat_tests)
 
 wrapped_here : (h : ℕ) → h < 128 → wrapped (h + 0) ≡ h
@@ -22,6 +22,9 @@ wrapped_step h k l m = grind (arith, nat_tests)
 -- two places less than a round apart differ
 wrapped_apart : (h k n : ℕ) → h < 128 → k < n → n < 128 → wrapped (h + k) ≡ wrapped (h + n) → ⊥
 wrapped_apart h k n l m o = grind (arith, nat_tests)
+
+pub queued_top : (items : List ℕ) (h n : ℕ) → 0 < n → queued items h n ≡ get_or items h 0 ∷ queued items (wrapped (h + 1)) (n - 1)
+queued_top items h n l = let e : suc (n - 1) ≡ n = omega arith in sym (ap (queued items h) e)
 
 -- a write at none of its places is not seen
 queued_set : (items : List ℕ) (i v h n : ℕ) → h < 128 → n ≤ 128 → ((k : ℕ) → k < n → wrapped (h + k) ≡ i → ⊥) → queued (set items i v) h n ≡ queued items h n
@@ -37,7 +40,7 @@ queued_more items h zero l m = ap (λ k. get_or items k 0 ∷ []) (sym (wrapped_
 queued_more items h (suc n) l m =
     ap (λ r. get_or items h 0 ∷ r) (queued_more items (wrapped (h + 1)) n (wrapped_in (h + 1) (omega arith)) (omega arith) ∙ ap (λ k. queued items (wrapped (h + 1)) n ++ get_or items k 0 ∷ []) (wrapped_step h n l (omega arith)))
 
-queued_push : (items : List ℕ) (v h n : ℕ) → h < 128 → n < 128 → length items ≡ 128 → queued (set items (wrapped (h + n)) v) h (n + 1) ≡ queued items h n ++ v ∷ []
+pub queued_push : (items : List ℕ) (v h n : ℕ) → h < 128 → n < 128 → length items ≡ 128 → queued (set items (wrapped (h + n)) v) h (n + 1) ≡ queued items h n ++ v ∷ []
 queued_push items v h n l m long =
     let w = wrapped (h + n) in
     let in' : wrapped (h + n) < length items = omega (arith, wrapped_in (h + n) (omega arith)) in

@@ -1,12 +1,13 @@
 -- The records that a pool issued, as a list. Assumes nothing.
 use Rattle.std.specs.Prelude.{◌≡◌, ℕ, ◌<◌, ◌≤◌, Bool, true, List, Ok, Err, Result}
+use Rattle.rooms.specs.Held.{held}
 use Rattle.pools.specs.declared.issued.Issued.{Issued}
 use Rattle.pools.specs.declared.pool.OutOfPool.{OutOfPool}
 use Rattle.pools.specs.Sets.{nothing, adding}
 use Rattle.pools.specs.Orders.{listed, apart}
 
 abbrev pub issued : Issued → List ℕ
-issued i = i.nodes.items
+issued i = held i.nodes
 
 -- A record is given to a pool with the members `s`, and then all are taken, which leaves the members `t`: the record is
 -- among those issued, each of which was a member or the record itself, once each, and the pool is empty. A number that

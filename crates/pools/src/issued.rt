@@ -1,7 +1,7 @@
 // The records that a pool issued, in the order of the takes.
-use arrayvec::ArrayVec;
+use rooms::Room;
 
-#[derive(Clone, Debug, Drop)]
+#[derive(Clone, Copy, Debug)]
 pub struct Issued {
-    pub nodes: ArrayVec<u8, 128>,
+    pub nodes: Room<u8, 128>,
 }

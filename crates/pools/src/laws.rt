@@ -6,7 +6,7 @@ ghost use Rattle.pools.specs.Issues.{issued, IssuesAgain};
 
 use crate::issued::Issued;
 use crate::pool::{OutOfPool, Pool};
-use arrayvec::ArrayVec;
+use rooms::Room;
 
 // Takes one: a member, which is one no longer; or none, and then the pool was empty.
 pub fn take_member<P: Pool>(pool: &mut P) -> Option<u8>
@@ -25,9 +25,9 @@ pub fn drain<P: Pool>(pool: &mut P) -> Issued
     ensures empty { P.Pool.has pool.new ≡ nothing }
     ensures size { P.Pool.size pool.new ≡ P.Pool.size pool.old }
 {
-    let mut nodes = ArrayVec::new();
+    let mut nodes = Room::new();
     while let Some(node) = pool.take() {
-        nodes.push(node);
+        nodes.push(node).unwrap();
     }
     Issued { nodes }
 }

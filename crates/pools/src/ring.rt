@@ -13,7 +13,7 @@ const PLACES: u8 = 128;
 #[derive(Drop)]
 pub struct LongestRestedFirst {
     // from `head` on and past the end to the start; the next to be taken lies at `head`
-    // its own buffer and length: a take costs the same whatever the number of records, where `ArrayVec` moves all but the first
+    // its own buffer and length: a take costs the same whatever the number of records, where a `Room` would have to move all but the first
     items: [u8; 128],
     head: u8,
     len: u8,
@@ -24,9 +24,9 @@ pub struct LongestRestedFirst {
 impl Line for LongestRestedFirst {
     ghost use Rattle.pools.specs.Orders.{put_last};
     ghost use Rattle.pools.specs.Joining.{put_last_joins};
-    ghost use Rattle.pools.specs.Rings.{ring_order};
+    ghost use Rattle.pools.specs.Rings.{longest_rested_first};
 
-    ghost order = { ring_order };
+    ghost order = { longest_rested_first };
 
     ghost joined = { put_last };
 

@@ -3,7 +3,7 @@ ghost use Rattle.std.specs.Prelude.{◌≡◌};
 
 use crate::line::Line;
 use crate::line_pool::LinePool;
-use arrayvec::ArrayVec;
+use rooms::Room;
 use settings::Settings;
 
 pub type Stack = LinePool<LatestFirst>;
@@ -11,24 +11,24 @@ pub type Stack = LinePool<LatestFirst>;
 #[derive(Drop)]
 pub struct LatestFirst {
     // the next to be taken lies last
-    items: ArrayVec<u8, 128>,
+    items: Room<u8, 128>,
 }
 
 impl Line for LatestFirst {
     ghost use Rattle.pools.specs.Orders.{put_first};
     ghost use Rattle.pools.specs.Joining.{put_first_joins};
-    ghost use Rattle.pools.specs.Stacks.{stack_order};
+    ghost use Rattle.pools.specs.Stacks.{latest_first};
 
-    ghost order = { stack_order };
+    ghost order = { latest_first };
 
     ghost joined = { put_first };
 
     ghost joins = { put_first_joins };
 
     fn new(settings: &Settings) -> LatestFirst {
-        let mut items = ArrayVec::new();
+        let mut items = Room::new();
         for node in (0..settings.records).rev() {
-            items.push(node);
+            items.push(node).unwrap();
         }
         LatestFirst { items }
     }
@@ -38,6 +38,6 @@ impl Line for LatestFirst {
     }
 
     fn join(&mut self, node: u8) {
-        self.items.push(node);
+        self.items.push(node).unwrap();
     }
 }

@@ -53,7 +53,7 @@ fn call<P: Pool, F: Fn(&mut VecDeque<u8>, u8) -> Result<(), AllocFailed<u8>>>(
 // What is left in the pool comes out in the order of the list.
 fn empty<P: Pool>(rt: &impl Abort, pool: &mut P, list: &mut VecDeque<u8>) {
     let issued = drain(pool);
-    for node in issued.nodes {
+    for &node in issued.nodes.as_slice() {
         assert_eq!(rt; Some(node), list.pop_front());
     }
     assert!(rt; list.is_empty());
