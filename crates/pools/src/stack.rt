@@ -26,10 +26,13 @@ impl Line for LatestFirst {
     ghost joins = { put_first_joins };
 
     fn new(settings: &Settings) -> LatestFirst {
-        let mut items = Room::new();
-        for node in (0..settings.records).rev() {
-            items.push(node).unwrap();
+        let records = settings.records;
+        let mut items = [0; 128];
+        for k in 0..records {
+            items[k as usize] = records - 1 - k;
         }
+        // Written by index and not pushed: a push looks for a place each time, which takes ten times as long.
+        let items = Room::first_of(items, records as usize);
         LatestFirst { items }
     }
 

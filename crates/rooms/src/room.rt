@@ -32,9 +32,19 @@ impl<T: Copy + Default, const N: usize> Room<T, N> {
 }
 
 impl<T: Copy, const N: usize> Room<T, N> {
-    ghost use Rattle.std.specs.Prelude.{◌≡◌, ◌<◌, ◌↔◌, [], ◌∷◌, ◌++◌, length, IsSome};
+    ghost use Rattle.std.specs.Prelude.{◌≡◌, ◌<◌, ◌≤◌, ◌↔◌, [], ◌∷◌, ◌++◌, length, take, IsSome};
     ghost use Rattle.std.specs.Option.{option_to_list};
     ghost use Rattle.rooms.specs.Held.{held, LetsIn};
+
+    // The first `len` of the items; all of them where they are not as many.
+    pub fn first_of(places: [T; N], len: usize) -> Room<T, N>
+        ensures { held result ≡ take len places }
+    {
+        Room {
+            places,
+            len: len.min(N),
+        }
+    }
 
     pub fn as_slice(&self) -> &[T]
         ensures value { result.now ≡ held self.now }

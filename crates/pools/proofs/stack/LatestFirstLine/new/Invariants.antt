@@ -1,11 +1,5 @@
-use Rattle.std.proofs.Common.{◌≡◌, ◌-◌, length}
-use Rattle.std.specs.List.{range_with_len}
-use Rattle.rooms.specs.Held.{held}
-use Rattle.pools.specs.Stacks.{latest_first}
+use Rattle.std.proofs.Common.{◌≡◌, ℕ, ◌-◌, ◌<◌, length, get_or}
 use Rattle.pools.proofs.stack.LatestFirstLine.new.Given as goal
 
--- what is in so far are the records from `node` on
-abbrev pub invariant-loop-node : goal.invariant-loop-node
-invariant-loop-node l =
-    (latest_first record { items = l.items } ≡ range_with_len l.node (l.settings.records - l.node))
-    × (length (held l.items) ≡ l.settings.records - l.node)
+abbrev pub invariant-loop-k : goal.invariant-loop-k
+invariant-loop-k l = ((j : ℕ) → j < l.k → get_or l.items j 0 ≡ l.records - 1 - j) × (length l.items ≡ 128)
