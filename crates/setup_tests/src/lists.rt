@@ -12,7 +12,7 @@ fn draw(seed: u32) -> u32 {
     seed.wrapping_mul(1664525).wrapping_add(1013904223)
 }
 
-fn settings_of(records: u8) -> Result<Settings, SetupByte> {
+pub(crate) fn settings_of(records: u8) -> Result<Settings, SetupByte> {
     let line = SetupBytes {
         stations: 1,
         slots: 2,

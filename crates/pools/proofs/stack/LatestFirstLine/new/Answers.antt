@@ -1,7 +1,7 @@
 -- Each place is written with its record, so that they are issued from 0 upward.
 use Rattle.std.proofs.Common.{◌≡◌, ◌-◌, ◌<◌, length, refl, ◌∙◌, ap, arith, length-set}
 use Rattle.std.proofs.lemmas.List.Edits.{fill_by_more}
-use Rattle.rooms.specs.Held.{held}
+use Rattle.std.specs.List.{range_with_len}
 use Rattle.pools.proofs.Stacking.{stacked_new}
 use Rattle.pools.proofs.stack.LatestFirstLine.new.Goals as goal
 use Rattle.std.specs.Prelude.{reverse}
@@ -19,4 +19,5 @@ loop-k-preserved c =
 pub returns : goal.returns
 returns c =
     ap reverse c.first_of-items.ensures
-    ∙ stacked_new c.loop-k.items c.args.settings.now.records (omega (arith, c.loop-k.invariant.1, c.args.settings.now.records_in)) (λ j h. c.loop-k.invariant.0 j (omega arith))
+    ∙ stacked_new c.loop-k.items c.args.settings.now.records c.args.settings.now.records (omega arith) (omega (arith, c.loop-k.invariant.1, c.args.settings.now.records_in)) (λ j h. c.loop-k.invariant.0 j (omega arith))
+    ∙ ap (λ from. range_with_len from c.args.settings.now.records) (omega arith)
