@@ -1,4 +1,5 @@
 pub mod AloneLaws
 pub mod Decoding
+pub mod Encoding
 pub mod FrameLaws
 pub mod LineLaws

@@ -1,10 +1,10 @@
 -- The digits so far and those of the bytes that are left are those of all bytes.
-use Rattle.std.proofs.Common.{◌≡◌, ◌+◌, ◌++◌, length, drop}
-use Rattle.rooms.specs.Held.{held}
+use Rattle.std.proofs.Common.{◌≡◌, ◌+◌, ◌++◌, length, take, drop}
 use Rattle.frames.specs.Hexadecimal.{written}
 use Rattle.frames.proofs.hex.encode.Given as goal
 
 abbrev pub invariant-loop-byte : goal.invariant-loop-byte
 invariant-loop-byte l =
-    (held l.signs ++ written (drop l.byte-index l.byte-items) ≡ written l.byte-items)
-    × (length (held l.signs) ≡ l.byte-index + l.byte-index)
+    (take l.len l.signs ++ written (drop l.byte-index l.byte-items) ≡ written l.byte-items)
+    × (l.len ≡ l.byte-index + l.byte-index)
+    × (length l.signs ≡ 129)
